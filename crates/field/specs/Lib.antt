@@ -1,0 +1,3 @@
+pub mod Laws
+pub mod Modulo
+pub mod Table
