@@ -1,2 +1,4 @@
 pub mod Field
+pub mod Points
 pub mod Poly
+pub mod Ring
