@@ -72,6 +72,9 @@ module _ {O : Ops} (F : IsField O) where
   pub sub-zero-eq : (a b : ℕ) → a < q → b < q → a ⊖ b ≡ 0 → a ≡ b
   sub-zero-eq a b ha hb e = sym (sub-add a b ha) ∙ ap (λ (d : ℕ). b ⊕ d) e ∙ F .add-zero b hb
 
+  pub sub-not-zero : (a b : ℕ) → a < q → b < q → (a ≡ b → ⊥) → a ⊖ b ≡ 0 → ⊥
+  sub-not-zero a b ha hb n e = n (sub-zero-eq a b ha hb e)
+
   pub add-cancel : (a b c : ℕ) → b < q → c < q → a ⊕ b ≡ a ⊕ c → b ≡ c
   add-cancel a b c hb hc e = sym (add-sub b a hb) ∙ rw (add-comm b a, e, add-comm a c) (add-sub c a hc)
 
