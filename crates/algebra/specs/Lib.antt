@@ -4,4 +4,5 @@ pub mod Interpolate
 pub mod Points
 pub mod Poly
 pub mod Ring
+pub mod Secrecy
 pub mod Unique
