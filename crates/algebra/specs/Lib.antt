@@ -1,3 +1,4 @@
+pub mod Agreement
 pub mod Divide
 pub mod Field
 pub mod Interpolate

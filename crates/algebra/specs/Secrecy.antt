@@ -68,7 +68,7 @@ module _ {O : Ops} (F : IsField O) where
     exactly-one y hy = record { one = higher O xs y c; holds = higher-gives y hy; only = λ cs g. higher-only y cs (higher O xs y c) g (higher-gives y hy) }
 
   -- the same values from another constant: to each choice of higher coefficients for c belongs exactly one for c′
-  module _ (xs : List ℕ) (c c′ : ℕ) (P : Points q (0 ∷ xs)) (h : c < q) (h′ : c′ < q) (cs : List ℕ) where
+  module _ (xs : List ℕ) (c c′ : ℕ) (P : Points q (0 ∷ xs)) (h′ : c′ < q) (cs : List ℕ) where
     pub exchange-gives : Gives O xs (eval O (c ∷ cs)) c′ (exchange O xs c c′ cs)
     exchange-gives = higher-gives xs c′ P h′ (eval O (c ∷ cs)) (λ x m. eval-lt F (c ∷ cs) x)
 
@@ -79,5 +79,5 @@ module _ {O : Ops} (F : IsField O) where
       → exchange O xs c′ c (exchange O xs c c′ cs) ≡ cs
   exchange-back xs c c′ P h h′ cs s b =
       let cs′ = exchange O xs c c′ cs in
-      higher-only xs c P h (eval O (c′ ∷ cs′)) (exchange O xs c′ c cs′) cs (exchange-gives xs c′ c P h′ h cs′)
-      (record { size = s; below = b; values = λ x m. sym (exchange-gives xs c c′ P h h′ cs .values x m) })
+      higher-only xs c P h (eval O (c′ ∷ cs′)) (exchange O xs c′ c cs′) cs (exchange-gives xs c′ c P h cs′)
+      (record { size = s; below = b; values = λ x m. sym (exchange-gives xs c c′ P h′ cs .values x m) })
