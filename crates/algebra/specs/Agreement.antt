@@ -40,12 +40,13 @@ module _ (t f : ℕ) (xs : List ℕ) (a b : ℕ → Bool) where
 module _ {O : Ops} (F : IsField O) (t : ℕ) (xs : List ℕ) (y : ℕ → ℕ) (a b : ℕ → Bool) (p p′ : List ℕ)
     (P : Points (O .q) xs) (d : Degree O t p) (d′ : Degree O t p′) (A : Agrees O xs y a p) (B : Agrees O xs y b p′) where
   pub agreement-shared : suc t ≤ count (both a b) xs → p ≡ p′
-  agreement-shared h =
-      unique-degree F t (chosen (both a b) xs) p p′ (points-chosen (both a b) P) (omega (arith, length-chosen (both a b) xs)) d d′
-      (λ x m.
-      let i = chosen-in (both a b) xs x m in
-      let k = and-eq-true-iff (a x) (b x) .0 (chosen-passes (both a b) xs x m) in
-      A x i (k .0) ∙ sym (B x i (k .1)))
+  agreement-shared h = unique-degree F t (chosen (both a b) xs) p p′ (points-chosen (both a b) P) (omega (arith, length-chosen (both a b) xs)) d d′ same
+    where
+      same : (x : ℕ) → In x (chosen (both a b) xs) → eval O p x ≡ eval O p′ x
+      same x m =
+          let i = chosen-in (both a b) xs x m in
+          let k = and-eq-true-iff (a x) (b x) .0 (chosen-passes (both a b) xs x m) in
+          A x i (k .0) ∙ sym (B x i (k .1))
 
   -- "Any polynomials that reach need are the only ones."
   pub agreement : (f : ℕ) → need (length xs) t f ≤ count a xs → need (length xs) t f ≤ count b xs → p ≡ p′

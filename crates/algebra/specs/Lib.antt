@@ -1,9 +1,11 @@
 pub mod Agreement
 pub mod Divide
+pub mod Factor
 pub mod Field
 pub mod Interpolate
 pub mod Points
 pub mod Poly
 pub mod Ring
 pub mod Secrecy
+pub mod Total
 pub mod Unique
