@@ -1,7 +1,7 @@
 -- The factor by which a value at the point a counts at the place x: the product, over the points b other than a, of (x - b) / (a - b).
 -- Assumes nothing.
 use Prim.Native.Nat.{ℕ, suc, _<_}
-use mathlib.Core.Path.{_≡_, refl, sym, ap, ap₂, _∙_}
+use mathlib.Core.Path.{_≡_, refl, ap, _∙_}
 use mathlib.Core.Bool.{Bool, true, false, cond}
 use mathlib.Core.List.{List, [], _∷_, _++_}
 use lib.ListN.{length, getD, take}
@@ -9,11 +9,8 @@ use lib.Seq.{take-suc}
 use lib.Dec.{eqb}
 use borrow.Author.Tests.{eq-eqb, ne-eqb}
 use Rattle.algebra.specs.Field.{Ops, IsField}
+use Rattle.algebra.specs.Ratio.{ratio}
 use Rattle.algebra.specs.Ring.{mul-left-comm}
-
--- the factor of a that a single other point b makes
-abbrev pub ratio : Ops → ℕ → ℕ → ℕ → ℕ
-ratio O b a x = O .mul (O .sub x b) (O .inv (O .sub a b))
 
 unfoldable pub factor : Ops → List ℕ → ℕ → ℕ → ℕ
 factor O [] a x = 1

@@ -3,8 +3,10 @@ pub mod Divide
 pub mod Factor
 pub mod Field
 pub mod Interpolate
+pub mod Lagrange
 pub mod Points
 pub mod Poly
+pub mod Ratio
 pub mod Ring
 pub mod Secrecy
 pub mod Total

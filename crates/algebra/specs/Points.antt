@@ -3,6 +3,7 @@
 use Prim.Native.Nat.{ℕ, suc, _+_, _≤_, _<_}
 use mathlib.Core.Path.{_≡_, subst}
 use mathlib.Core.Bool.{Bool}
+use mathlib.Core.Logic.{inr}
 use mathlib.Core.List.{List, [], _∷_}
 use native.Mathlib.Omega.{arith}
 use Rattle.lists.specs.Below.{Below, below-head, below-tail, below-cons}
@@ -24,6 +25,11 @@ module _ {q x : ℕ} {xs : List ℕ} (P : Points q (x ∷ xs)) where
 
   pub points-apart : (y : ℕ) → In y xs → y ≡ x → ⊥
   points-apart y m e = P .different .0 (subst (λ (z : ℕ). In z xs) e m)
+
+pub points-skip : {q a b : ℕ} {xs : List ℕ} → Points q (a ∷ b ∷ xs) → Points q (a ∷ xs)
+points-skip {q} {a} {xs = xs} P =
+    let T = points-tail (points-tail P) in
+    record { below = below-cons q a xs (points-head P) (T .below); different = ((λ m. P .different .0 (inr m)), T .different) }
 
 pub points-in : {q : ℕ} {xs : List ℕ} → Points q xs → (x : ℕ) → In x xs → x < q
 points-in {q} {xs} P = below-in q xs (P .below)
