@@ -1,4 +1,5 @@
 pub mod Agreement
+pub mod Combine
 pub mod Divide
 pub mod Factor
 pub mod Field
@@ -9,5 +10,6 @@ pub mod Poly
 pub mod Ratio
 pub mod Ring
 pub mod Secrecy
+pub mod Through
 pub mod Total
 pub mod Unique
