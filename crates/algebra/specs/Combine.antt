@@ -33,10 +33,10 @@ combine-same O ys ys′ fs fs′ (suc k) hy hf =
     ap₂ (O .add) (combine-same O ys ys′ fs fs′ k (λ i l. hy i (omega arith)) (λ i l. hf i (omega arith))) (ap₂ (O .mul) (hy k (omega arith)) (hf k (omega arith)))
 
 -- one more place at the end
-pub combine-snoc : (O : Ops) (ys fs : List ℕ) (y f k : ℕ) → length ys ≡ k → length fs ≡ k
+pub combine-append-one : (O : Ops) (ys fs : List ℕ) (y f k : ℕ) → length ys ≡ k → length fs ≡ k
     → combine O (ys ++ (y ∷ [])) (fs ++ (f ∷ [])) (suc k) ≡ O .add (combine O ys fs k) (O .mul y f)
 unfolding combine
-combine-snoc O ys fs y f k sy sf =
+combine-append-one O ys fs y f k sy sf =
     ap₂ (O .add)
     (combine-same O (ys ++ (y ∷ [])) ys (fs ++ (f ∷ [])) fs k (λ i l. List·getD-append ys (y ∷ []) 0 i (omega arith)) (λ i l. List·getD-append fs (f ∷ []) 0 i (omega arith)))
     (ap₂ (O .mul) (getD-at ys y [] 0 k sy) (getD-at fs f [] 0 k sf))

@@ -40,12 +40,12 @@ module _ {O : Ops} (F : IsField O) where
   swap false false u v e = mul-left-comm F u v e
 
   -- one more point at the end
-  pub factor-snoc : (bs : List ℕ) (b a x : ℕ) → factor O (bs ++ (b ∷ [])) a x ≡ cond (eqb a b) (factor O bs a x) (O .mul (ratio O b a x) (factor O bs a x))
+  pub factor-append-one : (bs : List ℕ) (b a x : ℕ) → factor O (bs ++ (b ∷ [])) a x ≡ cond (eqb a b) (factor O bs a x) (O .mul (ratio O b a x) (factor O bs a x))
   unfolding factor
-  factor-snoc [] b a x = refl
-  factor-snoc (c ∷ bs) b a x =
-      ap (λ (e : ℕ). cond (eqb a c) e (O .mul (ratio O c a x) e)) (factor-snoc bs b a x) ∙ swap (eqb a c) (eqb a b) (ratio O c a x) (ratio O b a x) (factor O bs a x)
+  factor-append-one [] b a x = refl
+  factor-append-one (c ∷ bs) b a x =
+      ap (λ (e : ℕ). cond (eqb a c) e (O .mul (ratio O c a x) e)) (factor-append-one bs b a x) ∙ swap (eqb a c) (eqb a b) (ratio O c a x) (ratio O b a x) (factor O bs a x)
 
   pub factor-take : (bs : List ℕ) (i a x : ℕ) → i < length bs
       → factor O (take (suc i) bs) a x ≡ cond (eqb a (getD bs i 0)) (factor O (take i bs) a x) (O .mul (ratio O (getD bs i 0) a x) (factor O (take i bs) a x))
-  factor-take bs i a x h = rw (take-suc bs i 0 h) (factor-snoc (take i bs) (getD bs i 0) a x)
+  factor-take bs i a x h = rw (take-suc bs i 0 h) (factor-append-one (take i bs) (getD bs i 0) a x)

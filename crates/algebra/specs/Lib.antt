@@ -5,6 +5,7 @@ pub mod Factor
 pub mod Field
 pub mod Interpolate
 pub mod Lagrange
+pub mod OnePolynomial
 pub mod Points
 pub mod Poly
 pub mod Ratio

@@ -4,7 +4,7 @@ use Prim.Native.Nat.{ℕ, suc, _<_}
 use mathlib.Core.Path.{_≡_, ap, _∙_}
 use mathlib.Core.List.{List, [], _∷_}
 use lib.ListN.{length}
-use Rattle.lists.specs.Below.{Below}
+use Rattle.lists.specs.Below.{Below, below-cons}
 use Rattle.algebra.specs.Field.{Ops, IsField}
 use Rattle.algebra.specs.Ring.{zero-lt, zero-mul, mul-zero}
 
@@ -17,6 +17,9 @@ eval O (c ∷ cs) x = O .add c (O .mul x (eval O cs x))
 pub record Degree (O : Ops) (t : ℕ) (p : List ℕ) : Type 0 where
   pub size : length p ≡ suc t
   pub below : Below (O .q) p
+
+pub degree-cons : (O : Ops) (t c : ℕ) (cs : List ℕ) → c < O .q → length cs ≡ t → Below (O .q) cs → Degree O t (c ∷ cs)
+degree-cons O t c cs h s b = record { size = ap suc s; below = below-cons (O .q) c cs h b }
 
 module _ {O : Ops} (F : IsField O) where
   pub eval-lt : (p : List ℕ) (x : ℕ) → eval O p x < O .q

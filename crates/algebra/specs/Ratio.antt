@@ -1,7 +1,7 @@
 -- The ratio (x - b) / (a - b), which is 1 at a and 0 at b, and what two of them and three of them come to.
 -- Assumes nothing.
 use Prim.Native.Nat.{ℕ, _<_}
-use mathlib.Core.Path.{_≡_, sym, ap, ap₂, _∙_}
+use mathlib.Core.Path.{_≡_, sym, ap, _∙_}
 use Rattle.algebra.specs.Field.{Ops, IsField}
 use Rattle.algebra.specs.Ring.{ring, minus, add-comm, zero-add, mul-zero, zero-mul, mul-back, sub-not-zero}
 

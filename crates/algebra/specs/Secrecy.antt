@@ -1,13 +1,14 @@
 -- Secrecy of one value: fewer points than coefficients, and 0 not among them, say nothing of the constant.
 -- Whatever the constant is, the higher coefficients can be chosen in exactly one way to give any values at the points.
 -- Assumes nothing.
-use Prim.Native.Nat.{ℕ, _<_}
+use Prim.Native.Nat.{ℕ, _≤_, _<_}
 use mathlib.Core.Path.{_≡_, sym, ap, _∙_}
 use mathlib.Core.Logic.{inl, inr}
 use mathlib.Core.List.{List, _∷_}
 use native.Mathlib.Omega.{arith}
 use lib.ListN.{length}
 use Rattle.lists.specs.Below.{Below, below-cons}
+use Rattle.lists.specs.ExactlyOne.{ExactlyOne}
 use Rattle.lists.specs.Member.{In}
 use Rattle.algebra.specs.Field.{Ops, IsField}
 use Rattle.algebra.specs.Interpolate.{interpolate, length-interpolate, below-interpolate, eval-interpolate}
@@ -15,12 +16,6 @@ use Rattle.algebra.specs.Points.{Points, points-tail, points-apart, poin
 use Rattle.algebra.specs.Poly.{eval, eval-lt, eval-zero}
 use Rattle.algebra.specs.Ring.{sub-add, mul-back}
 use Rattle.algebra.specs.Unique.{unique}
-
--- a list with a property, and the only one that has it
-pub record ExactlyOne (P : List ℕ → Type 0) : Type 0 where
-  pub one : List ℕ
-  pub holds : P one
-  pub only : (other : List ℕ) → P other → other ≡ one
 
 -- behind the constant c, the higher coefficients cs give the values y at the points xs, one coefficient for each point
 pub record Gives (O : Ops) (xs : List ℕ) (y : ℕ → ℕ) (c : ℕ) (cs : List ℕ) : Type 0 where
@@ -56,8 +51,9 @@ module _ {O : Ops} (F : IsField O) where
 
     pub higher-only : (y : ℕ → ℕ) (cs cs′ : List ℕ) → Gives O xs y c cs → Gives O xs y c cs′ → cs ≡ cs′
     higher-only y cs cs′ g g′ =
-        let e : c ∷ cs ≡ c ∷ cs′ =
-        unique F (0 ∷ xs) (c ∷ cs) (c ∷ cs′) P (omega (arith, g .size)) (omega (arith, g .size, g′ .size)) (below-cons q c cs h (g .below)) (below-cons q c cs′ h (g′ .below)) same in
+        let l : length (c ∷ cs) ≤ length (0 ∷ xs) = omega (arith, g .size) in
+        let s : length (c ∷ cs) ≡ length (c ∷ cs′) = omega (arith, g .size, g′ .size) in
+        let e = unique F (0 ∷ xs) (c ∷ cs) (c ∷ cs′) P l s (below-cons q c cs h (g .below)) (below-cons q c cs′ h (g′ .below)) same in
         cc
       where
         same : (x : ℕ) → In x (0 ∷ xs) → eval O (c ∷ cs) x ≡ eval O (c ∷ cs′) x

@@ -1,14 +1,14 @@
 -- The one polynomial with the values ys at the points xs, both lists, and its value anywhere.
 -- Assumes nothing.
 use Prim.Native.Nat.{ℕ, _<_}
-use mathlib.Core.Path.{_≡_, sym, ap, _∙_}
+use mathlib.Core.Path.{_≡_, sym, _∙_}
 use mathlib.Core.List.{List}
 use native.Mathlib.Nat.{le-of-eq}
 use lib.ListN.{length, getD}
 use Rattle.lists.specs.Below.{Below}
 use Rattle.lists.specs.Lookup.{lookup, lookup-getD, lookup-lt}
 use Rattle.lists.specs.Map.{getD-map}
-use Rattle.lists.specs.Member.{In, in-getD, in-every}
+use Rattle.lists.specs.Member.{in-getD, in-every}
 use Rattle.algebra.specs.Combine.{combine, combine-value, factors}
 use Rattle.algebra.specs.Factor.{factor}
 use Rattle.algebra.specs.Field.{Ops, IsField}

@@ -1,14 +1,14 @@
 -- The numbers of a list that pass a test, in their order.
 -- Assumes nothing.
-use Prim.Native.Nat.{ℕ, suc, _+_, _<_}
-use mathlib.Core.Path.{_≡_, refl, sym, ap, _∙_}
-use mathlib.Core.Bool.{Bool, true, false, cond}
+use Prim.Native.Nat.{ℕ, _+_}
+use mathlib.Core.Path.{_≡_, refl, sym, ap, ap₂, _∙_}
+use mathlib.Core.Bool.{Bool, true, false, cond, _&&_}
 use mathlib.Core.Logic.{inl, inr}
-use mathlib.Core.List.{List, [], _∷_}
+use mathlib.Core.List.{List, [], _∷_, _++_}
 use native.Mathlib.Omega.{arith}
 use lib.ListN.{length, getD}
 use Rattle.lists.specs.Below.{Below}
-use Rattle.lists.specs.Count.{bit, count}
+use Rattle.lists.specs.Count.{bit, count, both}
 use Rattle.lists.specs.Different.{Different}
 use Rattle.lists.specs.Member.{In, in-getD, below-in}
 
@@ -67,3 +67,27 @@ different-chosen f (x ∷ xs) d = step (f x) (different-chosen f xs (d .1))
 
 pub below-chosen : (q : ℕ) (f : ℕ → Bool) (xs : List ℕ) → Below q xs → Below q (chosen f xs)
 below-chosen q f xs b i h = below-in q xs b (getD (chosen f xs) i 0) (chosen-in f xs _ (in-getD (chosen f xs) i h))
+
+pub chosen-append : (f : ℕ → Bool) (xs ys : List ℕ) → chosen f (xs ++ ys) ≡ chosen f xs ++ chosen f ys
+unfolding chosen
+chosen-append f [] ys = refl
+chosen-append f (x ∷ xs) ys = ap (λ (r : List ℕ). cond (f x) (x ∷ r) r) (chosen-append f xs ys) ∙ step (f x)
+  where
+    step : (b : Bool) → cond b (x ∷ (chosen f xs ++ chosen f ys)) (chosen f xs ++ chosen f ys) ≡ cond b (x ∷ chosen f xs) (chosen f xs) ++ chosen f ys
+    step true = refl
+    step false = refl
+
+pub chosen-same : (f g : ℕ → Bool) (xs : List ℕ) → ((x : ℕ) → In x xs → f x ≡ g x) → chosen f xs ≡ chosen g xs
+unfolding chosen
+chosen-same f g [] h = refl
+chosen-same f g (x ∷ xs) h = ap₂ (λ (b : Bool) (r : List ℕ). cond b (x ∷ r) r) (h x (inl refl)) (chosen-same f g xs (λ y m. h y (inr m)))
+
+-- to count among the chosen is to count those that pass both tests
+pub count-chosen : (f g : ℕ → Bool) (xs : List ℕ) → count g (chosen f xs) ≡ count (both f g) xs
+unfolding chosen count
+count-chosen f g [] = refl
+count-chosen f g (x ∷ xs) = step (f x) (count-chosen f g xs)
+  where
+    step : (b : Bool) → count g (chosen f xs) ≡ count (both f g) xs → count g (cond b (x ∷ chosen f xs) (chosen f xs)) ≡ bit (b && g x) + count (both f g) xs
+    step true h = omega arith
+    step false h = omega arith

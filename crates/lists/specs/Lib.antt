@@ -2,6 +2,7 @@ pub mod Below
 pub mod Chosen
 pub mod Count
 pub mod Different
+pub mod ExactlyOne
 pub mod From
 pub mod Lookup
 pub mod Map
