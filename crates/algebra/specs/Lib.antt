@@ -1,2 +1,16 @@
+pub mod Agreement
+pub mod Combine
+pub mod Divide
+pub mod Factor
 pub mod Field
+pub mod Interpolate
+pub mod Lagrange
+pub mod OnePolynomial
+pub mod Points
 pub mod Poly
+pub mod Ratio
+pub mod Ring
+pub mod Secrecy
+pub mod Through
+pub mod Total
+pub mod Unique

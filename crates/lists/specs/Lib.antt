@@ -1,3 +1,11 @@
 pub mod Below
 pub mod Every
 pub mod Modulus
+pub mod Chosen
+pub mod Count
+pub mod Different
+pub mod ExactlyOne
+pub mod From
+pub mod Lookup
+pub mod Map
+pub mod Member
