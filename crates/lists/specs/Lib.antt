@@ -1,5 +1,7 @@
 pub mod Below
 pub mod Every
+pub mod Grown
+pub mod Listed
 pub mod Modulus
 pub mod Chosen
 pub mod Count
@@ -9,3 +11,6 @@ pub mod From
 pub mod Lookup
 pub mod Map
 pub mod Member
+pub mod Patched
+pub mod Pieces
+pub mod Total
