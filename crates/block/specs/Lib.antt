@@ -1,0 +1,6 @@
+pub mod AtMostLaws
+pub mod Check
+pub mod CheckLaws
+pub mod WordLaws
+pub mod WordParts
+pub mod Words

@@ -1,0 +1,15 @@
+-- Words as bytes.
+-- Assumes nothing.
+use Prim.Native.Nat.{ℕ, _+_, _*_, _/_, _%_}
+use mathlib.Core.List.{List, [], _∷_}
+
+-- "words of two bytes, high byte first"
+unfoldable pub bytesOf : List ℕ → List ℕ
+bytesOf [] = []
+bytesOf (w ∷ ws) = w / 256 ∷ w % 256 ∷ bytesOf ws
+
+-- the words that bytes are; a last byte without its fellow is no word
+unfoldable pub wordsOf : List ℕ → List ℕ
+wordsOf [] = []
+wordsOf (b ∷ []) = []
+wordsOf (high ∷ low ∷ bs) = (high * 256 + low) ∷ wordsOf bs

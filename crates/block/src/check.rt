@@ -1,0 +1,93 @@
+// The check of a block: its two sums, a block sealed with them, and what is wrong with one.
+ghost use mathlib.Core.Path.{_≡_};
+ghost use Prim.Native.Nat.{_%_};
+ghost use lib.ListN.{length, take};
+ghost use Rattle.block.specs.Words.{bytesOf, wordsOf};
+ghost use Rattle.block.specs.Check.{plainCheck, weightedCheck, sealed, allAtMost, checked, blockNumber};
+use crate::words::put_words;
+use crate::words::word_at;
+
+// The two check words that 254 words should have.
+struct CheckWords {
+    plain: u16,
+    weighted: u16,
+}
+
+fn wide(w: u16) -> u32
+    ensures { λ r. ⌜ r ≡ w ⌝ }
+{
+    w as u32
+}
+
+fn remainder(sum: u32) -> u16
+    ensures { λ r. ⌜ r ≡ sum % 257 ⌝ }
+{
+    (sum % 257) as u16
+}
+
+// The sums stay below 2^32 for any words: 254 * 65535 * 256.
+fn sums(block: &[u8]) -> CheckWords
+    requires { ⌜ length (now block) ≡ 512 ⌝ }
+    ensures { λ r. ⌜ (r .plain ≡ plainCheck (wordsOf (now (block .entry)))) × (r .weighted ≡ weightedCheck (wordsOf (now (block .entry)))) ⌝ }
+{
+    let mut plain: u32 = 0;
+    let mut weighted: u32 = 0;
+    let mut weight: u32 = 1;
+    let mut i = 0;
+    while i < 254 {
+        let w = wide(word_at(block, i));
+        plain += w;
+        weighted += w * weight;
+        weight = weight * 3 % 257;
+        i += 1;
+    }
+    CheckWords {
+        plain: remainder(plain),
+        weighted: remainder(weighted),
+    }
+}
+
+// Writes the check words after 254 words.
+pub fn seal(block: &mut [u8])
+    requires { ⌜ length (now block) ≡ 512 ⌝ }
+    ensures { λ _. ⌜ now (block .exit) ≡ bytesOf (sealed (take 254 (wordsOf (now (block .entry))))) ⌝ }
+{
+    let s = sums(block);
+    let last = [s.plain, s.weighted];
+    put_words(block, 254, &last);
+}
+
+// Whether each word is at most 256.
+fn within(block: &[u8]) -> bool
+    requires { ⌜ length (now block) ≡ 512 ⌝ }
+    ensures { λ r. ⌜ r ≡ allAtMost 256 (wordsOf (now (block .entry))) ⌝ }
+{
+    let mut i = 0;
+    while i < 256 {
+        if 256 < word_at(block, i) {
+            return false;
+        }
+        i += 1;
+    }
+    true
+}
+
+fn agrees(block: &[u8]) -> bool
+    requires { ⌜ length (now block) ≡ 512 ⌝ }
+    ensures { λ r. ⌜ r ≡ checked (wordsOf (now (block .entry))) ⌝ }
+{
+    let s = sums(block);
+    word_at(block, 254) == s.plain && word_at(block, 255) == s.weighted
+}
+
+// What is wrong with a block, whatever its words mean: 9, 10, or 0 where nothing is.
+pub fn number(block: &[u8]) -> u32
+    requires { ⌜ length (now block) ≡ 512 ⌝ }
+    ensures { λ r. ⌜ r ≡ blockNumber (wordsOf (now (block .entry))) ⌝ }
+{
+    if within(block) {
+        if agrees(block) { 0 } else { 10 }
+    } else {
+        9
+    }
+}

@@ -1,0 +1,3 @@
+// The lowest layer of the format: words as bytes, and a block of 256 words with its check, whatever the words mean.
+pub mod check;
+pub mod words;

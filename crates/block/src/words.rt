@@ -1,0 +1,63 @@
+// Words of two bytes, high byte first: read one, write a run, read a run.
+ghost use mathlib.Core.Path.{_≡_};
+ghost use Prim.Native.Nat.{_+_, _*_, _/_, _%_, _<_, _≤_};
+ghost use lib.ListN.{length, getD, take, drop};
+ghost use Rattle.lists.specs.Patched.{patched};
+ghost use Rattle.block.specs.Words.{bytesOf, wordsOf};
+
+fn pair(high: u8, low: u8) -> u16
+    ensures { λ r. ⌜ r ≡ high * 256 + low ⌝ }
+{
+    (high as u16) * 256 + (low as u16)
+}
+
+fn high_byte(w: u16) -> u8
+    ensures { λ r. ⌜ r ≡ w / 256 ⌝ }
+{
+    (w / 256) as u8
+}
+
+fn low_byte(w: u16) -> u8
+    ensures { λ r. ⌜ r ≡ w % 256 ⌝ }
+{
+    (w % 256) as u8
+}
+
+// Word i of some bytes.
+pub fn word_at(bytes: &[u8], i: usize) -> u16
+    requires { ⌜ 2 * i + 1 < length (now bytes) ⌝ }
+    ensures { λ r. ⌜ r ≡ getD (wordsOf (now (bytes .entry))) i 0 ⌝ }
+{
+    let high = bytes[2 * i];
+    let low = bytes[2 * i + 1];
+    pair(high, low)
+}
+
+// Lays words over the bytes, from word `from` on.
+pub fn put_words(bytes: &mut [u8], from: usize, words: &[u16])
+    requires { ⌜ 2 * from + 2 * length (now words) ≤ length (now bytes) ⌝ }
+    ensures { λ _. ⌜ now (bytes .exit) ≡ patched (now (bytes .entry)) (2 * from) (bytesOf (now (words .entry))) ⌝ }
+{
+    let mut i = 0;
+    while i < words.len() {
+        let w = words[i];
+        let high = high_byte(w);
+        let low = low_byte(w);
+        let at = 2 * (from + i);
+        bytes[at] = high;
+        bytes[at + 1] = low;
+        i += 1;
+    }
+}
+
+// Fills a row with the words from word `from` on.
+pub fn take_words(bytes: &[u8], from: usize, row: &mut [u16])
+    requires { ⌜ 2 * from + 2 * length (now row) ≤ length (now bytes) ⌝ }
+    ensures { λ _. ⌜ now (row .exit) ≡ take (length (now (row .entry))) (drop from (wordsOf (now (bytes .entry)))) ⌝ }
+{
+    let mut i = 0;
+    while i < row.len() {
+        row[i] = word_at(bytes, from + i);
+        i += 1;
+    }
+}
