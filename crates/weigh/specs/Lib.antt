@@ -1,0 +1,4 @@
+pub mod Carried
+pub mod PlainRows
+pub mod PlainSum
+pub mod Weigh
