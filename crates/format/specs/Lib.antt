@@ -1,0 +1,4 @@
+pub mod Order
+pub mod Head
+pub mod Letter
+pub mod Reading
