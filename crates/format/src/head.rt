@@ -21,10 +21,7 @@ pub fn lawful(h: Head) -> bool
 {
     let o = h.order;
     order::lawful(o)
-        && order::has_keeper(o, h.keeper)
-        && 1 <= h.stamp
-        && 1 <= h.length
-        && h.length <= 952
+        && (order::has_keeper(o, h.keeper) && (1 <= h.stamp && (1 <= h.length && h.length <= 952)))
 }
 
 pub fn same(a: Head, b: Head) -> bool
@@ -32,7 +29,8 @@ pub fn same(a: Head, b: Head) -> bool
 {
     let here = a.order;
     let there = b.order;
-    order::same(here, there) && a.keeper == b.keeper && a.stamp == b.stamp && a.length == b.length
+    order::same(here, there)
+        && (a.keeper == b.keeper && (a.stamp == b.stamp && a.length == b.length))
 }
 
 // Words 0..15 of block p of a letter.

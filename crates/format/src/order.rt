@@ -11,7 +11,7 @@ pub struct Order {
 pub fn lawful(o: Order) -> bool
     ensures { λ r. ⌜ r ≡ lawfulOrder o ⌝ }
 {
-    1 <= o.t && o.t <= 7 && o.f <= o.t && o.t + 4 * o.f + 1 <= o.n && o.n <= 16
+    1 <= o.t && (o.t <= 7 && (o.f <= o.t && (o.t + 4 * o.f + 1 <= o.n && o.n <= 16)))
 }
 
 pub fn has_keeper(o: Order, keeper: usize) -> bool
@@ -23,5 +23,5 @@ pub fn has_keeper(o: Order, keeper: usize) -> bool
 pub fn same(a: Order, b: Order) -> bool
     ensures { λ r. ⌜ r ≡ sameOrder a b ⌝ }
 {
-    a.t == b.t && a.f == b.f && a.n == b.n
+    a.t == b.t && (a.f == b.f && a.n == b.n)
 }
