@@ -5,3 +5,5 @@ pub mod Reading
 pub mod Passing
 pub mod OrderLaws
 pub mod HeadLaws
+pub mod LetterSizes
+pub mod SlotWords
