@@ -1,10 +1,9 @@
 -- What it says that a head is lawful and that two heads are the same.
 -- Assumes nothing.
-use Prim.Native.Nat.{_+_, _*_, _≤_}
-use mathlib.Core.Path.{_≡_, refl, ap}
+use Prim.Native.Nat.{_≤_}
+use mathlib.Core.Path.{_≡_, ap}
 use mathlib.Core.Bool.{true}
 use Rattle.format.specs.declared.head.Head.{Head}
-use Rattle.format.specs.Order.{lawfulOrder, lawfulKeeper, sameOrder}
 use Rattle.format.specs.OrderLaws.{OrderFacts, KeeperFacts, lawful-order-facts, facts-lawful-order, lawful-keeper-facts, facts-lawful-keeper, same-order-equal, equal-same-order}
 use Rattle.format.specs.Head.{lawfulHead, sameHead}
 use Rattle.format.specs.Passing.{passed, passes}
@@ -24,7 +23,9 @@ lawful-head-facts h e = search (passed, lawful-order-facts, lawful-keeper-facts)
 pub facts-lawful-head : (h : Head) → HeadFacts h → lawfulHead h ≡ true
 unfolding lawfulHead
 facts-lawful-head h facts =
-    simp (passes, facts-lawful-order (h .order) (facts .of-order), facts-lawful-keeper (h .order) (h .keeper) (facts .of-keeper), facts .stamp-least, facts .stamp-most, facts .length-least, facts .length-most)
+    let order = facts-lawful-order (h .order) (facts .of-order) in
+    let keeper = facts-lawful-keeper (h .order) (h .keeper) (facts .of-keeper) in
+    simp (passes, order, keeper, facts .stamp-least, facts .stamp-most, facts .length-least, facts .length-most)
 
 pub same-head-equal : (a b : Head) → sameHead a b ≡ true → a ≡ b
 unfolding sameHead

@@ -10,7 +10,7 @@ use lib.ListN.{length, getD, take, drop, replicate, length-append, length-take, 
 use lib.Seq.{getD-take, getD-drop}
 use Rattle.lists.specs.Listed.{length-listed, listed-is}
 use Rattle.lists.specs.Zeros.{getD-append-zeros}
-use Rattle.block.specs.WordLaws.{length-bytes}
+use Rattle.block.specs.WordParts.{length-bytes}
 use Rattle.block.specs.CheckLaws.{length-sealed}
 use Rattle.format.specs.declared.head.Head.{Head}
 use Rattle.format.specs.Head.{headWords}
@@ -26,6 +26,10 @@ pub blocks-facts : (l : ℕ) → 1 ≤ l → l ≤ 952 → BlocksFacts l
 unfolding blocksFor
 blocks-facts l least most = omega arith
 
+-- how many blocks a letter of this head has
+abbrev pub blockCount : Head → ℕ
+blockCount h = blocksFor (h .length)
+
 -- the share words that block p holds
 abbrev pub sharePart : List ℕ → ℕ → List ℕ
 sharePart shares p = take (min (238 * p + 238) (length shares) - 238 * p) (drop (238 * p) shares)
@@ -35,7 +39,7 @@ length-share-part shares p = rw (length-take, length-drop) (omega arith)
 
 getD-share-part : (shares : List ℕ) (p i : ℕ) → i < 238 → getD (sharePart shares p) i 0 ≡ getD shares (238 * p + i) 0
 getD-share-part shares p i h =
-    by-cases (decLt i (min (238 * p + 238) (length shares) - 238 * p)) (λ within. rw (getD-take (min (238 * p + 238) (length shares) - 238 * p) (drop (238 * p) shares) i 0 within, getD-drop))
+    by-cases (decLt i (min (238 * p + 238) (length shares) - 238 * p)) (λ within. rw (getD-take, getD-drop))
     (λ past. rw (List·getD-eq-default (sharePart shares p) 0 {n = i} (omega (arith, length-share-part shares p)), List·getD-eq-default shares 0 {n = 238 * p + i} (omega arith)))
 
 pub length-block-shares : (shares : List ℕ) (p : ℕ) → length (blockShares shares p) ≡ 238

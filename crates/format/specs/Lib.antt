@@ -7,3 +7,10 @@ pub mod OrderLaws
 pub mod HeadLaws
 pub mod LetterSizes
 pub mod SlotWords
+pub mod HeaderLaws
+pub mod LetterBlockLaws
+pub mod GoodSlot
+pub mod ShareLaws
+pub mod WrittenReads
+pub mod GoodWritten
+pub mod OneSlot

@@ -1,7 +1,7 @@
 -- What it says that an order is lawful, that a keeper is one of its keepers, and that two orders are the same.
 -- Assumes nothing.
 use Prim.Native.Nat.{ℕ, _+_, _*_, _≤_}
-use mathlib.Core.Path.{_≡_, refl, ap}
+use mathlib.Core.Path.{_≡_, ap}
 use mathlib.Core.Bool.{true}
 use Rattle.format.specs.declared.order.Order.{Order}
 use Rattle.format.specs.Order.{lawfulOrder, lawfulKeeper, sameOrder}

@@ -5,20 +5,14 @@ use mathlib.Core.Path.{_≡_, refl}
 use mathlib.Core.List.{List, [], _∷_, _++_}
 use native.Mathlib.Nat.{sub-zero, zero-sub, suc-sub-suc}
 use native.Mathlib.Omega.{arith}
-use lib.ListN.{length, getD, drop, replicate}
-use Rattle.lists.specs.Below.{Below, below-nil, below-head, below-tail, below-cons}
+use lib.ListN.{getD, drop, replicate}
+use Rattle.lists.specs.Below.{Below, below-nil, below-cons}
 
 pub below-zeros : (q k : ℕ) → Below (suc q) (replicate k 0)
 below-zeros q zero = below-nil (suc q)
 below-zeros q (suc k) = below-cons (suc q) 0 (replicate k 0) (omega arith) (below-zeros q k)
 
-pub below-one-zeros : (xs : List ℕ) → Below 1 xs → xs ≡ replicate (length xs) 0
-below-one-zeros [] b = refl
-below-one-zeros (x ∷ xs) b =
-    let none : x ≡ 0 = omega (arith, below-head 1 x xs b) in
-    rw (none, ← below-one-zeros xs (below-tail 1 x xs b))
-
-pub getD-zeros : (k i : ℕ) → _≡_ {A = ℕ} (getD (replicate k 0) i 0) 0
+getD-zeros : (k i : ℕ) → _≡_ {A = ℕ} (getD (replicate k 0) i 0) 0
 getD-zeros zero i = refl
 getD-zeros (suc k) zero = refl
 getD-zeros (suc k) (suc i) = getD-zeros k i
