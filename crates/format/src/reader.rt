@@ -43,9 +43,8 @@ fn header_right(first: Head, place: usize, block: &[u8]) -> bool
 {
     let here = head_of(block);
     head::lawful(here)
-        && all_at_most(block, 6, 12, 255)
-        && place_right(block, place)
-        && head::same(here, first)
+        && (all_at_most(block, 6, 12, 255)
+            && (place_right(block, place) && head::same(here, first)))
 }
 
 // What is wrong with a block at its place in the letter that block 0 begins: 9, 10, 11, 12, or 0 where nothing is.
