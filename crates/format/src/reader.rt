@@ -4,7 +4,7 @@ ghost use mathlib.Core.Bool.{true};
 ghost use Prim.Native.Nat.{_<_, _≤_};
 ghost use lib.ListN.{length};
 ghost use Rattle.block.specs.Words.{wordsOf};
-ghost use Rattle.format.specs.Head.{lawfulHead, lawfulLength};
+ghost use Rattle.format.specs.Head.{lawfulHead};
 ghost use Rattle.format.specs.Reading.{markRight, placeRight, headerRight, letterBlockNumber, sharesOf, endsInZeros, judgedFrom, readOf};
 use crate::head;
 use crate::head::Head;
@@ -68,7 +68,7 @@ fn block_number(first: Head, place: usize, block: &[u8]) -> u32
 }
 // Whether the share words past l, and the bytes past the last block, are zero.
 fn ends_in_zeros(slot: &[u8], l: usize) -> bool
-    requires { ⌜ (length (now slot) ≡ 2048) × (lawfulLength l ≡ true) ⌝ }
+    requires { ⌜ (length (now slot) ≡ 2048) × (1 ≤ l) × (l ≤ 952) ⌝ }
     ensures { λ r. ⌜ r ≡ endsInZeros (now (slot .entry)) l ⌝ }
 {
     let count = blocks(l);
