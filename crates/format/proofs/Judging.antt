@@ -1,14 +1,12 @@
 -- Judging a slot one block after another.
 -- Assumes nothing.
-use Prim.Native.Nat.{ℕ, suc, _+_, _-_, _*_, _<_, _≤_, max}
+use Prim.Native.Nat.{ℕ, suc, _+_, _-_, _<_, _≤_, max}
 use mathlib.Core.Path.{_≡_, refl, _∙_}
 use mathlib.Core.Bool.{true}
 use mathlib.Core.List.{List}
 use native.Mathlib.Numerals.{add-one}
 use native.Mathlib.Omega.{arith}
-use lib.ListN.{take, drop}
 use borrow.Author.Tests.{eq-eqb, ne-eqb}
-use Rattle.block.specs.Words.{wordsOf}
 use Rattle.format.specs.declared.head.Head.{Head}
 use Rattle.format.specs.declared.reader.Reading.the-variants.{Bad}
 use Rattle.format.specs.Head.{lawfulHead}
@@ -51,12 +49,9 @@ module _ (slot : List ℕ) (h : Head) (count : ℕ) where
         let none : max 1 (blocksFor (h .length)) - p ≡ 0 = omega arith in
         before .judged ∙ rw none
 
-    module _ (within : p < count) (number : ℕ) (found : number ≡ letterBlockNumber h p (wordsOf (take (512 * p + 512 - 512 * p) (drop (512 * p) slot)))) where
-      found-here : number ≡ letterBlockNumber h p (blockWords slot p)
-      found-here = let whole : 512 * p + 512 - 512 * p ≡ 512 = omega arith in rw whole at found
-
+    module _ (within : p < count) (number : ℕ) (found : number ≡ letterBlockNumber h p (blockWords slot p)) where
       pub judged-bad : (number ≡ 0 → ⊥) → judgedFrom slot h 1 ≡ Bad number p
-      judged-bad bad = before .judged ∙ bad-block slot h p number found-here (omega arith) bad
+      judged-bad bad = before .judged ∙ bad-block slot h p number found (omega arith) bad
 
       pub judged-next : number ≡ 0 → JudgedTo slot h count (p + 1)
       judged-next good =
@@ -65,5 +60,5 @@ module _ (slot : List ℕ) (h : Head) (count : ℕ) where
             few = before .few;
             least = omega arith;
             reached = omega arith;
-            judged = before .judged ∙ good-block slot h p number found-here (omega arith) good;
+            judged = before .judged ∙ good-block slot h p number found (omega arith) good;
           }

@@ -1,8 +1,8 @@
 // Reading a slot: whether it holds a good letter, and if not, what is wrong and where.
 ghost use mathlib.Core.Path.{_≡_};
 ghost use mathlib.Core.Bool.{true};
-ghost use Prim.Native.Nat.{_<_, _≤_};
-ghost use lib.ListN.{length};
+ghost use Prim.Native.Nat.{_*_, _<_, _≤_};
+ghost use lib.ListN.{length, take, drop};
 ghost use Rattle.block.specs.Words.{wordsOf};
 ghost use Rattle.format.specs.Head.{lawfulHead};
 ghost use Rattle.format.specs.Reading.{markRight, placeRight, headerRight, letterBlockNumber, sharesOf, endsInZeros, judgedFrom, readOf};
@@ -20,6 +20,15 @@ use block::words::word_at;
 pub enum Reading {
     Good(Head),
     Bad { number: u32, place: usize },
+}
+
+// The bytes of the block at a place of a slot.
+fn block_at(slot: &[u8], place: usize) -> &[u8]
+    requires { ⌜ (length (now slot) ≡ 2048) × (place < 4) ⌝ }
+    ensures { λ r. ⌜ (now r ≡ take 512 (drop (512 * place) (now (slot .entry)))) × (length (now r) ≡ 512) ⌝ }
+{
+    let from = 512 * place;
+    &slot[from..from + 512]
 }
 
 // Whether words 0 and 1 are a letter's.
@@ -85,7 +94,7 @@ fn read_on(slot: &[u8], first: Head) -> Reading
     let count = blocks(first.length);
     let mut p = 1;
     while p < count {
-        let number = block_number(first, p, &slot[512 * p..512 * p + 512]);
+        let number = block_number(first, p, block_at(slot, p));
         if number != 0 {
             return Reading::Bad { number, place: p };
         }
@@ -110,7 +119,7 @@ pub fn read(slot: &[u8]) -> Reading
             place: 0,
         };
     }
-    let block = &slot[0..512];
+    let block = block_at(slot, 0);
     let first = head_of(block);
     let number = block_number(first, 0, block);
     if number != 0 {
@@ -130,7 +139,7 @@ pub fn take_shares(slot: &[u8], row: &mut [u16])
     while p < count {
         let from = 238 * p;
         let to = end_of(from, l);
-        take_words(&slot[512 * p..512 * p + 512], 16, &mut row[from..to]);
+        take_words(block_at(slot, p), 16, &mut row[from..to]);
         p += 1;
     }
 }

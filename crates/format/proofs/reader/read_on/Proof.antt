@@ -2,11 +2,10 @@
 -- Assumes nothing.
 use borrow.Author.Needs.{needs}
 use Prim.Native.Nat.{_-_}
-use mathlib.Core.Path.{sym, _∙_}
+use mathlib.Core.Path.{_≡_, sym, _∙_}
 use native.Mathlib.Omega.{arith}
-use lib.ListN.{length-take, length-drop}
 use Rattle.format.specs.HeadLaws.{lawful-head-facts}
-use Rattle.format.specs.Reading.{ending}
+use Rattle.format.specs.Reading.{blockWords, letterBlockNumber, ending}
 use Rattle.format.proofs.Judging.{JudgedTo, judged-first, judged-next, judged-bad, judged-all}
 use Rattle.format.proofs.reader.read_on.Statement.{statement}
 use Rattle.format.proofs.reader.read_on.Tie as tie
@@ -17,35 +16,24 @@ Inv-loop slot first count p₀ p = JudgedTo slot first count p
 abbrev μ-loop : tie.MeasureT-loop
 μ-loop slot first count p₀ p = count - p
 
+found : (c : tie.After-block-number Inv-loop μ-loop) → let a = c .before .before .before .before .before .before .args in
+    c .block-number .result ≡ letterBlockNumber (a .first) (c .before .before .before .loop .p) (blockWords (a .slot .now) (c .before .before .before .loop .p))
+found c = rw (c .before .block-at .ensures .0) at (c .block-number .ensures)
+
 blocks-requires : tie.Need-blocks-requires Inv-loop μ-loop
 blocks-requires c κs = omega (arith, lawful-head-facts _ (c .before .pre .1))
 
 loop-holds : tie.Need-loop-holds Inv-loop μ-loop
 loop-holds c = judged-first _ _ _ (c .before .before .pre .1) (c .blocks2 .ensures)
 
-mul-block-number : tie.Need-mul-block-number Inv-loop μ-loop
-mul-block-number c = search needs
-
-mul-block-number-2 : tie.Need-mul-block-number-2 Inv-loop μ-loop
-mul-block-number-2 c = search needs
-
-add-block-number : tie.Need-add-block-number Inv-loop μ-loop
-add-block-number c = search needs
-
-sub-block-number : tie.Need-sub-block-number Inv-loop μ-loop
-sub-block-number c = search needs
-
-part-block-number-start : tie.Need-part-block-number-start Inv-loop μ-loop
-part-block-number-start c = search needs
-
-part-block-number-end : tie.Need-part-block-number-end Inv-loop μ-loop
-part-block-number-end c = search needs
+block-at-requires : tie.Need-block-at-requires Inv-loop μ-loop
+block-at-requires c κs = search needs
 
 block-number-requires : tie.Need-block-number-requires Inv-loop μ-loop
-block-number-requires c κs = (rw (length-take, length-drop) (omega arith), omega arith)
+block-number-requires c κs = omega arith
 
 returns : tie.Need-returns Inv-loop μ-loop
-returns c = sym (judged-bad _ _ _ _ (c .before .before .before .before .loop .inv) (c .before .before .before .loop-test .taken) _ (c .before .block-number .ensures) (c .if1 .taken))
+returns c = sym (judged-bad _ _ _ _ (c .before .before .before .before .loop .inv) (c .before .before .before .loop-test .taken) _ (found (c .before)) (c .if1 .taken))
 
 add-p : tie.Need-add-p Inv-loop μ-loop
 add-p c = search needs
@@ -54,7 +42,7 @@ loop-less : tie.Need-loop-less Inv-loop μ-loop
 loop-less c = search needs
 
 loop-again : tie.Need-loop-again Inv-loop μ-loop
-loop-again c = judged-next _ _ _ _ (c .before .before .before .before .loop .inv) (c .before .before .before .loop-test .taken) _ (c .before .block-number .ensures) (c .if1 .left)
+loop-again c = judged-next _ _ _ _ (c .before .before .before .before .loop .inv) (c .before .before .before .loop-test .taken) _ (found (c .before)) (c .if1 .left)
 
 ends-in-zeros-requires : tie.Need-ends-in-zeros-requires Inv-loop μ-loop
 ends-in-zeros-requires c κs =
@@ -77,12 +65,7 @@ read-on-spec =
     μ-loop
     blocks-requires
     loop-holds
-    mul-block-number
-    mul-block-number-2
-    add-block-number
-    sub-block-number
-    part-block-number-start
-    part-block-number-end
+    block-at-requires
     block-number-requires
     returns
     add-p
