@@ -1,3 +1,4 @@
 pub mod Chain
 pub mod Judging
 pub mod Filling
+pub mod Laying
