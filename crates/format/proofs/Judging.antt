@@ -2,18 +2,15 @@
 -- Assumes nothing.
 use Prim.Native.Nat.{ℕ, suc, _+_, _-_, _<_, _≤_, max}
 use mathlib.Core.Path.{_≡_, refl, _∙_}
-use mathlib.Core.Bool.{true}
 use mathlib.Core.List.{List}
 use native.Mathlib.Numerals.{add-one}
 use native.Mathlib.Omega.{arith}
 use borrow.Author.Tests.{eq-eqb, ne-eqb}
 use Rattle.format.specs.declared.head.Head.{Head}
 use Rattle.format.specs.declared.reader.Reading.the-variants.{Bad}
-use Rattle.format.specs.Head.{lawfulHead}
-use Rattle.format.specs.HeadLaws.{lawful-head-facts}
 use Rattle.format.specs.Letter.{blocksFor}
-use Rattle.format.specs.LetterSizes.{blocks-facts}
 use Rattle.format.specs.Reading.{blockWords, letterBlockNumber, firstFault, ending, judgedFrom}
+use Rattle.format.proofs.Counting.{Counted}
 
 module _ (slot : List ℕ) (h : Head) (p number : ℕ) (found : number ≡ letterBlockNumber h p (blockWords slot p)) (within : p < max 1 (blocksFor (h .length))) where
   one-more : max 1 (blocksFor (h .length)) - p ≡ suc (max 1 (blocksFor (h .length)) - (p + 1))
@@ -29,18 +26,13 @@ module _ (slot : List ℕ) (h : Head) (p number : ℕ) (found : number ≡ lette
 
 -- of `count` blocks, those from place 1 up to p have been found good
 pub record JudgedTo (slot : List ℕ) (h : Head) (count p : ℕ) : Type 0 where
-  pub many : count ≡ max 1 (blocksFor (h .length))
-  pub few : count ≤ 4
+  pub blocks : Counted (h .length) count
   pub least : 1 ≤ p
-  pub reached : p ≤ count
   pub judged : judgedFrom slot h 1 ≡ judgedFrom slot h p
 
 module _ (slot : List ℕ) (h : Head) (count : ℕ) where
-  pub judged-first : lawfulHead h ≡ true → count ≡ blocksFor (h .length) → JudgedTo slot h count 1
-  judged-first lawful many =
-      let facts = lawful-head-facts h lawful in
-      let sizes = blocks-facts (h .length) (facts .length-least) (facts .length-most) in
-      record { many = omega arith; few = omega arith; least = omega arith; reached = omega arith; judged = refl }
+  pub judged-first : Counted (h .length) count → JudgedTo slot h count 1
+  judged-first blocks = record { blocks = blocks; least = omega arith; judged = refl }
 
   module _ (p : ℕ) (before : JudgedTo slot h count p) where
     pub judged-all : count ≤ p → judgedFrom slot h 1 ≡ ending slot h
@@ -56,9 +48,7 @@ module _ (slot : List ℕ) (h : Head) (count : ℕ) where
       pub judged-next : number ≡ 0 → JudgedTo slot h count (p + 1)
       judged-next good =
           record {
-            many = before .many;
-            few = before .few;
+            blocks = before .blocks;
             least = omega arith;
-            reached = omega arith;
             judged = before .judged ∙ good-block slot h p number found (omega arith) good;
           }

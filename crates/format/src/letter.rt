@@ -64,7 +64,8 @@ pub fn write(h: Head, shares: &[u16], slot: &mut [u8])
     while p < count {
         let from = 238 * p;
         let to = end_of(from, l);
-        write_block(h, p, &shares[from..to], &mut slot[512 * p..512 * p + 512]);
+        let at = 512 * p;
+        write_block(h, p, &shares[from..to], &mut slot[at..at + 512]);
         p += 1;
     }
 }

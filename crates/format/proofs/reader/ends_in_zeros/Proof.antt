@@ -11,9 +11,9 @@ use Rattle.block.specs.Words.{wordsOf}
 use Rattle.block.specs.WordParts.{length-words}
 use Rattle.block.specs.Check.{allAtMost}
 use Rattle.format.specs.Letter.{blocksFor}
-use Rattle.format.specs.LetterSizes.{BlocksFacts, blocks-facts}
 use Rattle.format.specs.SlotWords.{shares-past, zeros-past}
 use Rattle.format.specs.Reading.{allShares, endsInZeros}
+use Rattle.format.proofs.Counting.{Counted, counted}
 use Rattle.format.proofs.reader.ends_in_zeros.Statement.{statement}
 use Rattle.format.proofs.reader.ends_in_zeros.Tie as tie
 
@@ -32,8 +32,8 @@ module _ (slot : List ℕ) (size : length slot ≡ 2048) where
       rw (take-all (1024 - 256 * count) (drop (256 * count) (wordsOf slot)) (rw (length-drop, length-words) (omega arith)), many)
       (sym (zeros-past slot size (blocksFor l)))
 
-sizes : (c : tie.After-blocks2) → BlocksFacts (c .before .before .args .l)
-sizes c = blocks-facts (c .before .before .args .l) (c .before .before .pre .1) (c .before .before .pre .2)
+sizes : (c : tie.After-blocks2) → Counted (c .before .before .args .l) (c .blocks2 .result)
+sizes c = counted (c .before .before .args .l) (c .blocks2 .result) (c .before .before .pre .2) (c .blocks2 .ensures)
 
 shares-zero : (c : tie.After-all-at-most) → let a = c .before .before .before .args in c .all-at-most .result ≡ allAtMost 0 (drop (a .l) (allShares (a .slot .now) (blocksFor (a .l))))
 shares-zero c =

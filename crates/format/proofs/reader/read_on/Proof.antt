@@ -6,6 +6,7 @@ use mathlib.Core.Path.{_≡_, sym, _∙_}
 use native.Mathlib.Omega.{arith}
 use Rattle.format.specs.HeadLaws.{lawful-head-facts}
 use Rattle.format.specs.Reading.{blockWords, letterBlockNumber, ending}
+use Rattle.format.proofs.Counting.{counted}
 use Rattle.format.proofs.Judging.{JudgedTo, judged-first, judged-next, judged-bad, judged-all}
 use Rattle.format.proofs.reader.read_on.Statement.{statement}
 use Rattle.format.proofs.reader.read_on.Tie as tie
@@ -24,7 +25,9 @@ blocks-requires : tie.Need-blocks-requires Inv-loop μ-loop
 blocks-requires c κs = omega (arith, lawful-head-facts _ (c .before .pre .1))
 
 loop-holds : tie.Need-loop-holds Inv-loop μ-loop
-loop-holds c = judged-first _ _ _ (c .before .before .pre .1) (c .blocks2 .ensures)
+loop-holds c =
+    let facts = lawful-head-facts _ (c .before .before .pre .1) in
+    judged-first _ _ _ (counted _ _ (facts .length-most) (c .blocks2 .ensures))
 
 block-at-requires : tie.Need-block-at-requires Inv-loop μ-loop
 block-at-requires c κs = search needs

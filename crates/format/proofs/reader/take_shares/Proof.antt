@@ -4,6 +4,7 @@ use Prim.Native.Nat.{_-_}
 use native.Mathlib.Omega.{arith}
 use lib.ListN.{length-take, length-drop}
 use borrow.Author.Needs.{needs}
+use Rattle.format.proofs.Counting.{counted}
 use Rattle.format.proofs.Filling.{FilledTo, filled-none, filled-next, filled-all}
 use Rattle.format.proofs.reader.take_shares.Statement.{statement}
 use Rattle.format.proofs.reader.take_shares.Tie as tie
@@ -18,7 +19,7 @@ blocks-requires : tie.Need-blocks-requires Inv-loop μ-loop
 blocks-requires c κs = search needs
 
 loop-holds : tie.Need-loop-holds Inv-loop μ-loop
-loop-holds c = filled-none _ _ _ (c .before .before .before .pre .1) (c .blocks2 .ensures)
+loop-holds c = filled-none _ _ _ (counted _ _ (c .before .before .before .pre .1) (c .blocks2 .ensures))
 
 mul-from : tie.Need-mul-from Inv-loop μ-loop
 mul-from c = omega arith
@@ -60,7 +61,7 @@ same-length : tie.Need-same-length Inv-loop μ-loop
 same-length c = c .before .loop .inv .size
 
 returns : tie.Need-returns Inv-loop μ-loop
-returns c = filled-all _ _ _ _ _ (c .before .loop .inv) (c .before .before .before .before .before .pre .0) (c .loop-test .left)
+returns c = filled-all _ _ _ _ _ (c .before .loop .inv) (c .loop-test .left)
 
 pub take-shares-spec : {M : Type 1} → statement M
 take-shares-spec =
