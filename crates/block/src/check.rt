@@ -3,7 +3,8 @@ ghost use mathlib.Core.Path.{_≡_};
 ghost use Prim.Native.Nat.{_%_};
 ghost use lib.ListN.{length, take};
 ghost use Rattle.block.specs.Words.{bytesOf, wordsOf};
-ghost use Rattle.block.specs.Check.{plainCheck, weightedCheck, sealed, allAtMost, checked, blockNumber};
+ghost use Rattle.block.specs.Check.{plainCheck, weightedCheck, sealed, checked, blockNumber};
+use crate::words::all_at_most;
 use crate::words::put_words;
 use crate::words::word_at;
 
@@ -57,21 +58,6 @@ pub fn seal(block: &mut [u8])
     put_words(block, 254, &last);
 }
 
-// Whether each word is at most 256.
-fn within(block: &[u8]) -> bool
-    requires { ⌜ length (now block) ≡ 512 ⌝ }
-    ensures { λ r. ⌜ r ≡ allAtMost 256 (wordsOf (now (block .entry))) ⌝ }
-{
-    let mut i = 0;
-    while i < 256 {
-        if 256 < word_at(block, i) {
-            return false;
-        }
-        i += 1;
-    }
-    true
-}
-
 fn agrees(block: &[u8]) -> bool
     requires { ⌜ length (now block) ≡ 512 ⌝ }
     ensures { λ r. ⌜ r ≡ checked (wordsOf (now (block .entry))) ⌝ }
@@ -85,7 +71,7 @@ pub fn number(block: &[u8]) -> u32
     requires { ⌜ length (now block) ≡ 512 ⌝ }
     ensures { λ r. ⌜ r ≡ blockNumber (wordsOf (now (block .entry))) ⌝ }
 {
-    if within(block) {
+    if all_at_most(block, 0, 256, 256) {
         if agrees(block) { 0 } else { 10 }
     } else {
         9

@@ -14,3 +14,5 @@ pub mod Member
 pub mod Patched
 pub mod Pieces
 pub mod Total
+pub mod Parts
+pub mod Zeros

@@ -1,0 +1,7 @@
+pub mod Chain
+pub mod Counting
+pub mod Filling
+pub mod Judging
+pub mod Laying
+pub mod Lent
+pub mod Writing

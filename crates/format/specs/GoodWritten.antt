@@ -1,0 +1,123 @@
+-- A slot that reads as good is the letter, as written, of the head and the share words that it gives.
+-- Assumes nothing.
+use Prim.Native.Nat.{ℕ, _+_, _-_, _*_, _<_, _≤_}
+use mathlib.Core.Path.{_≡_, sym, ap, _∙_}
+use mathlib.Core.Bool.{true}
+use mathlib.Core.List.{List, _++_}
+use native.Mathlib.Omega.{arith}
+use lib.ListN.{length, take, drop, replicate, length-take, length-drop, take-append-drop}
+use lib.Seq.{length-take-le, take-take}
+use Rattle.lists.specs.Below.{Below, below-take, below-drop}
+use Rattle.lists.specs.Parts.{drop-take}
+use Rattle.lists.specs.Pieces.{pieces, pieces-same, pieces-parts, part-pieces, below-pieces}
+use Rattle.block.specs.WordLaws.{bytes-words}
+use Rattle.block.specs.Check.{allAtMost}
+use Rattle.block.specs.AtMostLaws.{at-most-zeros}
+use Rattle.format.specs.declared.head.Head.{Head}
+use Rattle.format.specs.declared.reader.Reading.the-variants.{Good}
+use Rattle.format.specs.Head.{lawfulHead}
+use Rattle.format.specs.HeadLaws.{HeadFacts, lawful-head-facts}
+use Rattle.format.specs.Letter.{blockShares, blockBytes, letterBytes}
+use Rattle.format.specs.LetterSizes.{blockCount, BlocksFacts, blocks-facts}
+use Rattle.format.specs.LetterBlockLaws.{BlockRead, block-read}
+use Rattle.format.specs.ShareLaws.{block-shares-padded}
+use Rattle.format.specs.SlotWords.{sharesAt, length-block-words, length-shares-at, length-all-shares}
+use Rattle.format.specs.Passing.{passed}
+use Rattle.format.specs.Reading.{blockWords, allShares, sharesOf, endsInZeros, readOf}
+use Rattle.format.specs.GoodSlot.{GoodSlot, good-slot}
+
+pub record Written (slot : List ℕ) (h : Head) : Type 0 where
+  pub lawful : lawfulHead h ≡ true
+  pub size : length (sharesOf slot (h .length)) ≡ h .length
+  pub below : Below 257 (sharesOf slot (h .length))
+  pub written : slot ≡ letterBytes h (sharesOf slot (h .length))
+
+-- the words past the share words of a slot's blocks
+abbrev past : List ℕ → Head → List ℕ
+past slot h = drop (h .length) (allShares slot (blockCount h))
+
+-- the bytes past its blocks
+abbrev rest : List ℕ → Head → List ℕ
+rest slot h = drop (512 * blockCount h) slot
+
+module _ (slot : List ℕ) (h : Head) (bytes : Below 256 slot) (good : GoodSlot slot h) where
+  lawful-read : lawfulHead h ≡ true
+  lawful-read =
+      block-read h 0 (blockWords slot 0) (length-block-words slot (good .size) 0 (omega arith)) (good .faultless 0 (omega arith))
+      .lawful
+
+  facts : HeadFacts h
+  facts = lawful-head-facts h lawful-read
+
+  blocks : BlocksFacts (h .length)
+  blocks = blocks-facts (h .length) (facts .length-least) (facts .length-most)
+
+  block : (p : ℕ) → p < blockCount h → BlockRead h p (blockWords slot p)
+  block p l =
+      block-read h p (blockWords slot p) (length-block-words slot (good .size) p (omega (arith, blocks))) (good .faultless p (omega arith))
+
+  length-all : length (allShares slot (blockCount h)) ≡ blockCount h * 238
+  length-all = length-all-shares slot (good .size) (blockCount h) (omega (arith, blocks))
+
+  length-read : length (sharesOf slot (h .length)) ≡ h .length
+  length-read = length-take-le (h .length) (allShares slot (blockCount h)) (omega (arith, blocks, length-all))
+
+  below-read : Below 257 (sharesOf slot (h .length))
+  unfolding allShares
+  below-read =
+      below-take 257 (h .length) (allShares slot (blockCount h))
+      (below-pieces 257 (sharesAt slot) (blockCount h)
+      (λ p l. below-take 257 238 (drop 16 (blockWords slot p)) (below-drop 257 16 (blockWords slot p) (block p l .within))))
+
+  all-read : allShares slot (blockCount h) ≡ sharesOf slot (h .length) ++ replicate (length (past slot h)) 0
+  unfolding endsInZeros
+  all-read =
+      let zeros : allAtMost 0 (past slot h) ≡ true = search (passed, good .ends) in
+      sym (take-append-drop (h .length) (allShares slot (blockCount h)))
+      ∙ ap (λ xs. sharesOf slot (h .length) ++ xs) (at-most-zeros (past slot h) zeros)
+
+  shares-read : (p : ℕ) → p < blockCount h → blockShares (sharesOf slot (h .length)) p ≡ sharesAt slot p
+  unfolding allShares
+  shares-read p l =
+      let filled : length (sharesOf slot (h .length)) + length (past slot h) ≡ blockCount h * 238 = rw length-drop (omega (arith, blocks, length-all, length-read)) in
+      block-shares-padded (sharesOf slot (h .length)) (blockCount h) (length (past slot h)) filled p l
+      ∙ rw (← all-read)
+      (part-pieces 238 (sharesAt slot) (blockCount h) (λ i within. length-shares-at slot (good .size) i (omega (arith, blocks))) p l)
+
+  bytes-read : (p : ℕ) → p < blockCount h → blockBytes h (sharesOf slot (h .length)) p ≡ take 512 (drop (512 * p) slot)
+  unfolding blockBytes
+  bytes-read p l =
+      rw (shares-read p l, ← block p l .words)
+      (bytes-words 256 (take 512 (drop (512 * p) slot)) (rw (length-take, length-drop, good .size) (omega (arith, blocks)))
+      (below-take 256 512 (drop (512 * p) slot) (below-drop 256 (512 * p) slot bytes)))
+
+  front-part : (p : ℕ) → p < blockCount h → take 512 (drop (512 * p) slot) ≡ take 512 (drop (512 * p) (take (512 * blockCount h) slot))
+  front-part p l =
+      let room : 512 ≤ 512 * blockCount h - 512 * p = omega arith in
+      rw (drop-take, take-take)
+
+  blocks-read : pieces (blockBytes h (sharesOf slot (h .length))) (blockCount h) ≡ take (512 * blockCount h) slot
+  blocks-read =
+      pieces-same (blockBytes h (sharesOf slot (h .length))) (λ p. take 512 (drop (512 * p) (take (512 * blockCount h) slot))) (blockCount h)
+      (λ p l. bytes-read p l ∙ front-part p l)
+      ∙ pieces-parts 512 (blockCount h) (take (512 * blockCount h) slot) (rw (length-take, good .size) (omega (arith, blocks)))
+
+  rest-read : replicate (2048 - 512 * blockCount h) 0 ≡ rest slot h
+  unfolding endsInZeros
+  rest-read =
+      let zeros : allAtMost 0 (rest slot h) ≡ true = search (passed, good .ends) in
+      sym (rw (length-drop, good .size) at (at-most-zeros (rest slot h) zeros))
+
+  letter-read : slot ≡ letterBytes h (sharesOf slot (h .length))
+  unfolding letterBytes
+  letter-read = sym (rw (blocks-read, rest-read) (take-append-drop (512 * blockCount h) slot))
+
+pub good-written : (slot : List ℕ) (h : Head) → Below 256 slot → readOf slot ≡ Good h → Written slot h
+good-written slot h bytes read =
+    let good = good-slot slot h read in
+    record {
+      lawful = lawful-read slot h bytes good;
+      size = length-read slot h bytes good;
+      below = below-read slot h bytes good;
+      written = letter-read slot h bytes good;
+    }

@@ -1,0 +1,17 @@
+-- What it says that a row of tests is passed.
+-- Assumes nothing.
+use mathlib.Core.Path.{_≡_}
+use mathlib.Core.Bool.{Bool, true, _&&_, and-eq-true-iff}
+use borrow.Author.Tests.{leb-true, eqb-true, le-leb, eq-eqb}
+
+pub and-left : (a b : Bool) → (a && b) ≡ true → a ≡ true
+and-left a b e = and-eq-true-iff a b .0 e .0
+
+pub and-right : (a b : Bool) → (a && b) ≡ true → b ≡ true
+and-right a b e = and-eq-true-iff a b .0 e .1
+
+-- for `search`: each test's fact, of the row
+pub ruleset passed = (and-left, and-right, leb-true, eqb-true)
+
+-- for `simp`: each test, of its fact
+pub ruleset passes = (le-leb, eq-eqb)
