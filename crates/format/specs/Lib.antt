@@ -14,3 +14,4 @@ pub mod ShareLaws
 pub mod WrittenReads
 pub mod GoodWritten
 pub mod OneSlot
+pub mod ReadingBounds

@@ -1,0 +1,23 @@
+-- What cs_read answers, by what the slot reads as.
+-- Assumes nothing.
+use Prim.Native.Nat.{ℕ}
+use Rattle.format.specs.declared.head.Head.{Head}
+use Rattle.format.specs.declared.reader.Reading.{Reading}
+use Rattle.format.specs.Reading.{numberOf, placeOf, readHead}
+use Rattle.exports.specs.declared.read.ReadResult.{ReadResult}
+
+-- "A good letter answers 0 with its header's numbers and place 0." "Unless stated, every other number in a refusal's result is 0."
+abbrev pub numbers : ℕ → ℕ → Head → ReadResult
+numbers number place h = record {
+  number = number;
+  place = place;
+  t = h .order .t;
+  f = h .order .f;
+  n = h .order .n;
+  keeper = h .keeper;
+  stamp = h .stamp;
+  length = h .length;
+}
+
+abbrev pub readResult : Reading → ReadResult
+readResult r = numbers (numberOf r) (placeOf r) (readHead r)

@@ -1,0 +1,2 @@
+// The public calls for C, Rust and Python: plain numbers and slices.
+pub mod read;
