@@ -5,8 +5,8 @@
 //! Everything here is written to be plainly right and not to be quick, save `fast`, which holds the
 //! best loops we know for the cut and the join, for a fair comparison of speed.
 //!
-//! Beside the rules stand the means to try them: `cases` and `damage` make what a call is given, and
-//! `tally` counts the answers.
+//! Beside the rules stand the means to hold the proved library to them: `peer` calls it, `cases` and
+//! `damage` make what it is called with, and `tally` counts the answers.
 
 pub mod block;
 pub mod cases;
@@ -18,6 +18,7 @@ pub mod field;
 pub mod join;
 pub mod letter;
 pub mod order;
+pub mod peer;
 pub mod pick;
 pub mod random;
 pub mod report;
