@@ -1,0 +1,70 @@
+/*
+ * Csalgodes: shares of a signing key that come back right or not at all.
+ *
+ * The functions of the proved library, for C. Link libexports.a (x86-64 Linux). Each may be called
+ * with any values of its types: what is wrong with them is answered by a number, never by a fault.
+ * What is lent is a pointer and the number of elements behind it, and must really be there; the
+ * pointer is not NULL, even where the number is 0. Nothing is kept after a call, and nothing is
+ * allocated. A lent part that is written must not overlap another.
+ *
+ * The numbers a call can give:
+ *
+ *    0  done
+ *    1  the order is not lawful, or the desk's keeper number is outside 1..n
+ *    2  the secret's length is outside 1..952
+ *    3  the stamp is 0
+ *    4  a lent part has the wrong length
+ *    5  a random word is above 256
+ *    6  fewer than t+f+1 usable letters; for the pick, no group that large
+ *    7  no polynomials match enough letters
+ *    8  they match, but some constant is 256
+ *    9  a word in a block is above 256
+ *   10  a check word is wrong
+ *   11  word 0 or 1 of a block is wrong
+ *   12  another header word is wrong
+ *   13  bytes or share words past the end aren't zero
+ *   14  older than the letter held
+ *   15  the same stamp as the letter held, other bytes
+ *   16  a good letter, but not of this desk's order and keeper
+ *   17  nothing good is held
+ *
+ * Where several apply the smallest is given, save in a letter and at the desk, which judge in an
+ * order of their own. No refusal changes lent memory. Unless stated, every other number in a
+ * refusal's result is 0.
+ *
+ * An order is t, f, n: t is 1..7, f is at most t, n lies between t+4f+1 and 16. A slot is
+ * 2048 bytes. A tray is n slots, slot x belonging to keeper x, which is the x-th, counted from 1.
+ */
+#ifndef CSALGODES_H
+#define CSALGODES_H
+
+#include <stddef.h>
+#include <stdint.h>
+
+#ifdef __cplusplus
+extern "C" {
+#endif
+
+/* What a slot reads as. */
+typedef struct {
+    uint32_t number; /* 0, 4, or 9..13 */
+    uint32_t place;  /* of 9..12: the place of the first faulty block, from 0; else 0 */
+    uint32_t t, f, n;
+    uint32_t keeper;
+    uint32_t stamp;
+    uint32_t length; /* of the secret, in bytes */
+} cs_read_result;
+
+/*
+ * Reads a slot. A good letter answers 0 and its header's numbers; any other slot its number, and
+ * its place where a block is at fault.
+ *
+ * Lent: the slot, read only. Any length may be lent, and any but 2048 is 4.
+ */
+cs_read_result cs_read(const uint8_t *slot, size_t slot_length);
+
+#ifdef __cplusplus
+}
+#endif
+
+#endif

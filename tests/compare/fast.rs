@@ -1,0 +1,114 @@
+//! The best loops held equal to the plain program, so that the race they run is a fair one.
+
+use second::cases::{self, Tray, LENGTHS};
+use second::damage::{lie, set_word, slot};
+use second::order::Order;
+use second::random::Random;
+use second::tally::Tally;
+use second::{cut, fast, join};
+
+fn same_cut(order: Order, stamp: u32, secret: &[u8], words: &[u16], tray: &[u8]) -> u32 {
+    let (mut plain, mut quick) = (tray.to_vec(), tray.to_vec());
+    let number = cut::cut(order, stamp, secret, words, &mut plain);
+    assert_eq!(fast::cut(order, stamp, secret, words, &mut quick), number);
+    assert!(plain == quick, "{order:?} {} bytes", secret.len());
+    number
+}
+
+fn same_join(order: Order, stamp: u32, length: u32, tray: &[u8], room: usize) -> u32 {
+    let (mut plain, mut quick) = (vec![1; room], vec![1; room]);
+    let joined = join::join(order, stamp, length, tray, &mut plain);
+    assert_eq!(fast::join(order, stamp, length, tray, &mut quick), joined);
+    assert!(plain == quick, "{order:?} {length} bytes");
+    joined.number
+}
+
+#[test]
+fn the_cut_of_every_order_and_length_class() {
+    let random = &Random::new(101);
+    let mut tally = Tally::default();
+    for order in Order::all() {
+        for length in LENGTHS {
+            let secret = random.bytes(length);
+            let words = random.words(length * order.t as usize);
+            let tray = random.bytes(order.tray());
+            tally.add(same_cut(order, cases::stamp(random), &secret, &words, &tray));
+        }
+    }
+    tally.expect(1600, &[0]);
+}
+
+#[test]
+fn the_cut_s_refusals() {
+    let random = &Random::new(102);
+    let mut tally = Tally::default();
+    for _ in 0..400 {
+        let order = Order::new(random.between(0, 8), random.between(0, 3), random.between(3, 17));
+        let length = *random.choose(&[0, 1, 3, 952, 953]);
+        let mut words = random.words(length * order.t as usize + random.below(5) / 4);
+        if let Some(word) = words.last_mut().filter(|_| random.once_in(2)) {
+            *word = 257;
+        }
+        let tray = random.bytes(order.tray());
+        let stamp = random.between(0, 2);
+        tally.add(same_cut(order, stamp, &random.bytes(length), &words, &tray));
+    }
+    tally.expect(400, &[0, 1, 2, 3, 4, 5]);
+}
+
+#[test]
+fn the_join_with_liars_and_damage() {
+    let random = &Random::new(103);
+    let mut tally = Tally::default();
+    for round in 0..800 {
+        let order = cases::order(random);
+        let length = if round % 10 == 0 { cases::length(random) } else { 1 + random.below(70) };
+        let mut tray = Tray::cut(order, 9, length, random);
+        for keeper in 0..random.below(order.n as usize / 2 + 1) {
+            let slot = slot(&mut tray.bytes, order.n - keeper as u32);
+            match random.below(4) {
+                0 => set_word(slot, 0, random.below(256), random.between(0, 300)),
+                1 => lie(slot, length - 1, random.between(0, 256)),
+                2 => lie(slot, random.below(length), random.between(0, 256)),
+                _ => (0..length.min(5)).for_each(|i| lie(slot, i, random.between(0, 256))),
+            }
+        }
+        tally.add(same_join(order, 9, length as u32, &tray.bytes, length));
+    }
+    tally.expect(800, &[0, 6, 7]);
+}
+
+#[test]
+fn the_join_of_few_letters_with_few_words() {
+    let random = &Random::new(104);
+    let order = Order::new(1, 1, 6);
+    let tray = Tray::cut(order, 9, 2, random).bytes;
+    let mut tally = Tally::default();
+    for _ in 0..3000 {
+        let mut tray = tray.clone();
+        for keeper in 1..=6 {
+            let slot = slot(&mut tray, keeper);
+            lie(slot, 0, *random.choose(&[keeper - 1, keeper, 1, 256]));
+            lie(slot, 1, *random.choose(&[keeper, keeper, 4]));
+            if random.once_in(3) {
+                slot.fill(0);
+            }
+        }
+        tally.add(same_join(order, 9, 2, &tray, 2));
+    }
+    tally.expect(3000, &[0, 6, 7, 8]);
+}
+
+#[test]
+fn the_join_s_refusals() {
+    let random = &Random::new(105);
+    let mut tally = Tally::default();
+    for _ in 0..400 {
+        let order = Order::new(random.between(0, 8), random.between(0, 3), random.between(3, 17));
+        let length = *random.choose(&[0, 1, 3, 952, 953]);
+        let tray = random.bytes(order.tray() + random.below(3) / 2);
+        let room = length as usize + random.below(3) / 2;
+        tally.add(same_join(order, random.between(0, 2), length, &tray, room));
+    }
+    tally.expect(400, &[1, 2, 3, 4, 6]);
+}

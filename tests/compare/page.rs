@@ -1,0 +1,149 @@
+//! The second program held to the page's own numbers, before anything is held to it.
+
+use second::block::{check, Words};
+use second::cut::cut;
+use second::damage::{exchange_slot, lie, share, slot};
+use second::field::{multiply, reciprocal};
+use second::join::{join, Joined};
+use second::letter::{Fault, Letter};
+use second::order::{Order, SLOT};
+use second::report::report;
+
+const ORDER: Order = Order { t: 1, f: 1, n: 6 };
+const STAMP: u32 = 7;
+
+/// One byte cut under the page's order, with one random word.
+fn page_tray(secret: u8, random: u16) -> Vec<u8> {
+    let mut tray = vec![0; ORDER.tray()];
+    assert_eq!(cut(ORDER, STAMP, &[secret], &[random], &mut tray), 0);
+    tray
+}
+
+fn share_words(tray: &mut [u8], keepers: impl IntoIterator<Item = u32>) -> Vec<u32> {
+    keepers.into_iter().map(|keeper| share(slot(tray, keeper), 0)).collect()
+}
+
+/// The join of a tray in which the keepers listed hold these words and the others nothing.
+fn join_of(words: &[(u32, u32)]) -> (Joined, u8) {
+    let full = page_tray(200, 100);
+    let mut tray = vec![0; ORDER.tray()];
+    for &(keeper, word) in words {
+        exchange_slot(&mut tray, &full, keeper);
+        lie(slot(&mut tray, keeper), 0, word);
+    }
+    let mut room = [99];
+    let joined = join(ORDER, STAMP, 1, &tray, &mut room);
+    (joined, room[0])
+}
+
+fn refused(number: u32, usable: u32, need: u32) -> (Joined, u8) {
+    (Joined { number, usable, need, set: 0 }, 99)
+}
+
+#[test]
+fn c1_share_words() {
+    let words = share_words(&mut page_tray(200, 100), 1..=6);
+    assert_eq!(words, [43, 143, 243, 86, 186, 29]);
+}
+
+#[test]
+fn c2_one_liar_of_six() {
+    let (joined, byte) = join_of(&[(1, 43), (2, 143), (3, 0), (4, 86), (5, 186), (6, 29)]);
+    assert_eq!(joined, Joined { number: 0, usable: 6, need: 5, set: 59 });
+    assert_eq!(byte, 200);
+}
+
+#[test]
+fn c3_two_liars_of_six() {
+    let words = [(1, 43), (2, 143), (3, 0), (4, 0), (5, 186), (6, 29)];
+    assert_eq!(join_of(&words), refused(7, 6, 5));
+}
+
+#[test]
+fn c4_one_liar_of_four() {
+    let (joined, byte) = join_of(&[(1, 43), (2, 143), (3, 0), (4, 86)]);
+    assert_eq!(joined, Joined { number: 0, usable: 4, need: 3, set: 11 });
+    assert_eq!(byte, 200);
+}
+
+#[test]
+fn c5_three_unaltered() {
+    let (joined, byte) = join_of(&[(1, 43), (2, 143), (3, 243)]);
+    assert_eq!(joined, Joined { number: 0, usable: 3, need: 3, set: 7 });
+    assert_eq!(byte, 200);
+}
+
+#[test]
+fn c6_one_liar_of_three() {
+    assert_eq!(join_of(&[(1, 43), (2, 143), (3, 0)]), refused(7, 3, 3));
+}
+
+#[test]
+fn c7_two_letters() {
+    assert_eq!(join_of(&[(1, 43), (2, 143)]), refused(6, 2, 3));
+}
+
+#[test]
+fn c8_a_constant_of_256() {
+    let (joined, byte) = join_of(&[(1, 0), (2, 1), (3, 2)]);
+    assert_eq!(joined, Joined { number: 8, usable: 3, need: 3, set: 7 });
+    assert_eq!(byte, 99);
+}
+
+#[test]
+fn c9_random_word_0() {
+    assert_eq!(share_words(&mut page_tray(200, 0), 1..=6), [200; 6]);
+}
+
+#[test]
+fn c10_two_coefficients() {
+    let order = Order::new(2, 0, 16);
+    let mut tray = vec![0; order.tray()];
+    assert_eq!(cut(order, 1, &[5], &[7, 11], &mut tray), 0);
+    assert_eq!(share_words(&mut tray, [1, 2, 3, 16]), [23, 63, 125, 106]);
+}
+
+#[test]
+fn c11_one_random_word_for_each_other_secret() {
+    let giving: Vec<u16> =
+        (0..=256).filter(|&word| share_words(&mut page_tray(0, word), [2]) == [143]).collect();
+    assert_eq!(giving, [200]);
+}
+
+#[test]
+fn c12_check_words() {
+    let mut words: Words = [0; 256];
+    words[..2].copy_from_slice(&[83, 2]);
+    assert_eq!(check(&words), [85, 89]);
+}
+
+#[test]
+fn reciprocals() {
+    for (a, b) in [(0, 0), (2, 129), (3, 86), (16, 241), (256, 256)] {
+        assert_eq!(reciprocal(a), b);
+    }
+    assert!((1..257).all(|a| multiply(a, reciprocal(a)) == 1));
+}
+
+#[test]
+fn a_slot_of_zeros_is_11() {
+    assert_eq!(Letter::read(&[0; SLOT]), Err(Fault { number: 11, place: 0 }));
+}
+
+#[test]
+fn the_report_of_the_page() {
+    let mut tray = page_tray(200, 100);
+    lie(slot(&mut tray, 3), 0, 0);
+    slot(&mut tray, 6).fill(0);
+    let text = "stamp 7 length 1\n\
+                keeper 1 agrees\n\
+                keeper 2 agrees\n\
+                keeper 3 differs\n\
+                keeper 4 agrees\n\
+                keeper 5 agrees\n\
+                keeper 6 absent\n\
+                usable 5 need 4 agree 4\n\
+                answer 0\n";
+    let written = report(&[&[1, 1, 6], tray.as_slice()].concat());
+    assert_eq!(String::from_utf8(written).as_deref(), Ok(text));
+}

@@ -1,0 +1,90 @@
+/*
+ * Calls the library for the tests, which may run on another kind of machine than it does. The other
+ * end, with the form of a request and a reply, is peer.rs.
+ */
+#include "csalgodes.h"
+
+/* Declared here, since where the kit's compiler builds this no header of the C library is at hand. */
+long read(int file, void *bytes, size_t count);
+long write(int file, const void *bytes, size_t count);
+
+enum { NUMBERS = 5, PARTS = 3, RESULTS = 8, GUARD = 64, GUARD_BYTE = 0xa5, LARGEST = 1 << 16 };
+
+static struct {
+    uint32_t call;
+    uint32_t number[NUMBERS];
+    uint32_t size[PARTS];
+} request;
+
+static uint32_t result[RESULTS];
+
+/* Each part lies between two guards. */
+static _Alignas(GUARD) uint8_t memory[PARTS][GUARD + LARGEST + GUARD];
+
+/* Whether all of it came, or went: a pipe may take several turns. */
+static int take(void *to, size_t count) {
+    uint8_t *at = to;
+    while (count > 0) {
+        long some = read(0, at, count);
+        if (some <= 0) return 0;
+        at += some;
+        count -= (size_t)some;
+    }
+    return 1;
+}
+
+static int give(const void *from, size_t count) {
+    const uint8_t *at = from;
+    while (count > 0) {
+        long some = write(1, at, count);
+        if (some <= 0) return 0;
+        at += some;
+        count -= (size_t)some;
+    }
+    return 1;
+}
+
+static void guard(uint8_t *bytes) {
+    for (size_t i = 0; i < GUARD; i++) bytes[i] = GUARD_BYTE;
+}
+
+static void answer_read(const uint8_t *slot, size_t size) {
+    cs_read_result r = cs_read(slot, size);
+    result[0] = r.number;
+    result[1] = r.place;
+    result[2] = r.t;
+    result[3] = r.f;
+    result[4] = r.n;
+    result[5] = r.keeper;
+    result[6] = r.stamp;
+    result[7] = r.length;
+}
+
+/* Whether there is such a call. */
+static int answer(void) {
+    uint8_t *first = memory[0] + GUARD;
+    const uint32_t *size = request.size;
+    switch (request.call) {
+    case 0: answer_read(first, size[0]); return 1;
+    default: return 0;
+    }
+}
+
+int main(void) {
+    while (take(&request, sizeof request)) {
+        for (int k = 0; k < RESULTS; k++) result[k] = 0;
+        for (int k = 0; k < PARTS; k++) {
+            size_t size = request.size[k];
+            if (size > LARGEST) return 1;
+            guard(memory[k]);
+            guard(memory[k] + GUARD + size);
+            if (!take(memory[k] + GUARD, size)) return 1;
+        }
+        if (!answer()) return 1;
+        if (!give(result, sizeof result)) return 1;
+        for (int k = 0; k < PARTS; k++) {
+            if (!give(memory[k], GUARD + request.size[k] + GUARD)) return 1;
+        }
+    }
+    return 0;
+}

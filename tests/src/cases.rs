@@ -1,0 +1,72 @@
+//! Orders, heads, letters and trays to try, with the edges of the page more often than chance.
+
+use crate::cut::cut;
+use crate::letter::{Head, Letter};
+use crate::order::{Order, LONGEST};
+use crate::random::Random;
+
+/// Around the ends of each block's share words.
+pub const LENGTHS: [usize; 10] = [1, 2, 237, 238, 239, 476, 477, 715, 951, 952];
+
+pub const STAMPS: [u32; 8] = [1, 2, 255, 256, 0x0001_0000, 0x00ff_ffff, u32::MAX - 1, u32::MAX];
+
+/// Numbers that fit the type and nothing else.
+pub const FAR: [u32; 8] = [17, 255, 256, 65_536, 0x3fff_ffff, 0x4000_0000, 0x8000_0000, u32::MAX];
+
+pub fn order(random: &Random) -> Order {
+    *random.choose(&Order::all())
+}
+
+/// Of all four numbers of blocks alike.
+pub fn length(random: &Random) -> usize {
+    match random.below(3) {
+        0 => *random.choose(&LENGTHS),
+        1 => 1 + random.below(20),
+        _ => 1 + random.below(LONGEST),
+    }
+}
+
+pub fn stamp(random: &Random) -> u32 {
+    match random.below(3) {
+        0 => *random.choose(&STAMPS),
+        _ => random.between(1, u32::MAX),
+    }
+}
+
+pub fn head(random: &Random) -> Head {
+    let order = order(random);
+    let keeper = random.between(1, order.n);
+    Head { order, keeper, stamp: stamp(random), length: length(random) as u32 }
+}
+
+pub fn letter_of(head: Head, random: &Random) -> Letter {
+    let shares = random.words(head.length as usize).into_iter().map(u32::from).collect();
+    Letter { head, shares }
+}
+
+pub fn letter(random: &Random) -> Letter {
+    letter_of(head(random), random)
+}
+
+/// A secret cut, and all that it was cut with.
+#[derive(Clone)]
+pub struct Tray {
+    pub order: Order,
+    pub stamp: u32,
+    pub secret: Vec<u8>,
+    pub bytes: Vec<u8>,
+}
+
+impl Tray {
+    pub fn cut(order: Order, stamp: u32, length: usize, random: &Random) -> Tray {
+        let secret = random.bytes(length);
+        let words = random.words(length * order.t as usize);
+        let mut bytes = vec![0; order.tray()];
+        assert_eq!(cut(order, stamp, &secret, &words, &mut bytes), 0);
+        Tray { order, stamp, secret, bytes }
+    }
+
+    pub fn length(&self) -> u32 {
+        self.secret.len() as u32
+    }
+}

@@ -1,0 +1,26 @@
+//! The second program: the rules of the cut, the letter, the join, the desk, the pick and the
+//! report, written from the page alone. It shares no code and no table with the proved one, so
+//! that a mistake would have to be made twice to go unseen.
+//!
+//! Everything here is written to be plainly right and not to be quick, save `fast`, which holds the
+//! best loops we know for the cut and the join, for a fair comparison of speed.
+//!
+//! Beside the rules stand the means to hold the proved library to them: `peer` calls it, `cases` and
+//! `damage` make what it is called with, and `tally` counts the answers.
+
+pub mod block;
+pub mod cases;
+pub mod cut;
+pub mod damage;
+pub mod desk;
+pub mod fast;
+pub mod field;
+pub mod join;
+pub mod letter;
+pub mod order;
+pub mod peer;
+pub mod pick;
+pub mod random;
+pub mod report;
+pub mod solve;
+pub mod tally;

@@ -1,0 +1,100 @@
+//! The proved library, called through its C header in a process of its own.
+//!
+//! The library is compiled for x86-64 alone. A process lets the same tests run beside it on any
+//! machine that can run it at all, emulated or not, and a call that crashed would be seen as one.
+//!
+//! A request is the call's number, five numbers and the sizes of three parts, then the parts. The
+//! reply is eight numbers, then each part as the call left it, between guards. `peer.c` is the other
+//! end.
+
+use std::io::{BufReader, Read, Write};
+use std::process::{Child, ChildStdin, ChildStdout, Command, Stdio};
+
+const NUMBERS: usize = 5;
+const PARTS: usize = 3;
+const RESULTS: usize = 8;
+const GUARD: usize = 64;
+const GUARD_BYTE: u8 = 0xa5;
+
+/// Where the gate builds.
+const TARGET: &str = concat!(env!("CARGO_MANIFEST_DIR"), "/../target");
+
+/// A command that runs one of the project's x86-64 programs on this machine.
+pub fn program(path: &str) -> Command {
+    let mut command = Command::new(format!("{TARGET}/outside/run"));
+    command.arg(format!("{TARGET}/{path}"));
+    command
+}
+
+pub struct Peer {
+    process: Child,
+    requests: Option<ChildStdin>,
+    replies: BufReader<ChildStdout>,
+}
+
+/// What a call answers, and how it leaves what it was lent.
+struct Reply {
+    numbers: [u32; RESULTS],
+    left: Vec<Vec<u8>>,
+}
+
+impl Peer {
+    pub fn start() -> Peer {
+        let mut process = program("outside/peer")
+            .stdin(Stdio::piped())
+            .stdout(Stdio::piped())
+            .spawn()
+            .expect("tests/peer/build makes the peer and what runs it");
+        let requests = process.stdin.take();
+        let replies = BufReader::new(process.stdout.take().expect("it was asked for"));
+        Peer { process, requests, replies }
+    }
+
+    fn call(&mut self, call: u32, numbers: &[u32], lent: &[&[u8]]) -> Reply {
+        let mut words = vec![call];
+        words.extend(numbers);
+        words.resize(1 + NUMBERS, 0);
+        words.extend(lent.iter().map(|part| part.len() as u32));
+        words.resize(1 + NUMBERS + PARTS, 0);
+        let mut request: Vec<u8> = words.iter().flat_map(|word| word.to_le_bytes()).collect();
+        request.extend(lent.concat());
+        let requests = self.requests.as_mut().expect("open until the end");
+        requests.write_all(&request).expect("the peer takes the request");
+
+        let numbers = std::array::from_fn(|_| {
+            let bytes = self.take(4).try_into().expect("four bytes");
+            u32::from_le_bytes(bytes)
+        });
+        let sizes = lent.iter().map(|part| part.len()).chain([0; PARTS]).take(PARTS);
+        let left = sizes.map(|size| self.take_guarded(size)).collect();
+        Reply { numbers, left }
+    }
+
+    fn take(&mut self, count: usize) -> Vec<u8> {
+        let mut bytes = vec![0; count];
+        self.replies.read_exact(&mut bytes).expect("the peer answers, and has not crashed");
+        bytes
+    }
+
+    fn take_guarded(&mut self, count: usize) -> Vec<u8> {
+        let [front, part, back] = [GUARD, count, GUARD].map(|count| self.take(count));
+        let whole = front.iter().chain(&back).all(|&byte| byte == GUARD_BYTE);
+        assert!(whole, "the call wrote beside what it was lent");
+        part
+    }
+
+    /// Number, place, t, f, n, keeper, stamp, length.
+    pub fn read(&mut self, slot: &[u8]) -> [u32; 8] {
+        let Reply { numbers, left } = self.call(0, &[], &[slot]);
+        assert!(left[0] == slot, "the slot is only lent to be read");
+        numbers
+    }
+}
+
+impl Drop for Peer {
+    /// The peer ends when its input does; waiting leaves no process behind.
+    fn drop(&mut self) {
+        drop(self.requests.take());
+        let _ = self.process.wait();
+    }
+}
