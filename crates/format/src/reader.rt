@@ -1,6 +1,7 @@
 // Reading a slot: whether it holds a good letter, and if not, what is wrong and where.
 ghost use mathlib.Core.Path.{_≡_};
-ghost use mathlib.Core.Bool.{true};
+ghost use mathlib.Core.Bool.{true, cond};
+ghost use lib.Dec.{eqb};
 ghost use Prim.Native.Nat.{_*_, _<_, _≤_};
 ghost use lib.ListN.{length, take, drop};
 ghost use Rattle.block.specs.Words.{wordsOf};
@@ -56,25 +57,34 @@ fn header_right(first: Head, place: usize, block: &[u8]) -> bool
             && (place_right(block, place) && head::same(here, first)))
 }
 
+// A number, or 0 where what it is the number of is right.
+fn unless(right: bool, number: u32) -> u32
+    ensures { λ r. ⌜ r ≡ cond right 0 number ⌝ }
+{
+    if right { 0 } else { number }
+}
+
+// The first of three numbers that is not 0.
+fn first_of(one: u32, two: u32, three: u32) -> u32
+    ensures { λ r. ⌜ r ≡ cond (eqb one 0) (cond (eqb two 0) three two) one ⌝ }
+{
+    if one != 0 {
+        return one;
+    }
+    if two != 0 { two } else { three }
+}
+
 // What is wrong with a block at its place in the letter that block 0 begins: 9, 10, 11, 12, or 0 where nothing is.
 fn block_number(first: Head, place: usize, block: &[u8]) -> u32
     requires { ⌜ (length (now block) ≡ 512) × (place < 4) ⌝ }
     ensures { λ r. ⌜ r ≡ letterBlockNumber first place (wordsOf (now (block .entry))) ⌝ }
 {
-    let number = check::number(block);
-    if number != 0 {
-        return number;
-    }
-    if mark_right(block) {
-        if header_right(first, place, block) {
-            0
-        } else {
-            12
-        }
-    } else {
-        11
-    }
+    let checked = check::number(block);
+    let marked = unless(mark_right(block), 11);
+    let headed = unless(header_right(first, place, block), 12);
+    first_of(checked, marked, headed)
 }
+
 // Whether the share words past l, and the bytes past the last block, are zero.
 fn ends_in_zeros(slot: &[u8], l: usize) -> bool
     requires { ⌜ (length (now slot) ≡ 2048) × (1 ≤ l) × (l ≤ 952) ⌝ }

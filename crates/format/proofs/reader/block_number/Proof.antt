@@ -1,7 +1,10 @@
--- `reader::block_number` meets its contract: its tests are the definition's, in their order.
+-- `reader::block_number` meets its contract: the first of its numbers that is not 0 is the definition's.
 -- Assumes nothing.
+use Prim.Native.Nat.{ℕ}
+use mathlib.Core.Path.{_≡_, refl, _∙_}
+use mathlib.Core.Bool.{Bool, true, false, cond}
+use lib.Dec.{eqb}
 use borrow.Author.Needs.{needs}
-use borrow.Author.Tests.{eq-eqb, ne-eqb}
 use Rattle.format.specs.Reading.{letterBlockNumber}
 use Rattle.format.proofs.reader.block_number.Statement.{statement}
 use Rattle.format.proofs.reader.block_number.Tie as tie
@@ -9,38 +12,43 @@ use Rattle.format.proofs.reader.block_number.Tie as tie
 number-requires : tie.Need-number-requires
 number-requires c κs = search needs
 
-returns : tie.Need-returns
-unfolding letterBlockNumber
-returns c = rw (← c .before .number .ensures, ne-eqb _ 0 (c .if1 .taken))
-
 mark-right-requires : tie.Need-mark-right-requires
 mark-right-requires c κs = search needs
+
+unless-requires : tie.Need-unless-requires
+unless-requires c κs = search needs
 
 header-right-requires : tie.Need-header-right-requires
 header-right-requires c κs = search needs
 
-returns-2 : tie.Need-returns-2
-unfolding letterBlockNumber
-returns-2 c =
-    rw (← c .before .before .before .before .before .number .ensures, ← c .before .before .before .mark-right .ensures, ← c .before .header-right .ensures, eq-eqb _ 0 (c .before .before .before .before .if1 .left), c .before .before .if2 .taken, c .if3 .taken)
+unless-requires-2 : tie.Need-unless-requires-2
+unless-requires-2 c κs = search needs
 
-returns-3 : tie.Need-returns-3
-unfolding letterBlockNumber
-returns-3 c =
-    rw (← c .before .before .before .before .before .number .ensures, ← c .before .before .before .mark-right .ensures, ← c .before .header-right .ensures, eq-eqb _ 0 (c .before .before .before .before .if1 .left), c .before .before .if2 .taken, c .if3 .left)
+first-of-requires : tie.Need-first-of-requires
+first-of-requires c κs = search needs
 
-returns-4 : tie.Need-returns-4
+in-order : (number : ℕ) (mark header : Bool)
+    → cond (eqb number 0) (cond (eqb (cond mark 0 11) 0) (cond header 0 12) (cond mark 0 11)) number ≡ cond (eqb number 0) (cond mark (cond header 0 12) 11) number
+in-order number true header = refl
+in-order number false header = refl
+
+returns : tie.Need-returns
 unfolding letterBlockNumber
-returns-4 c = rw (← c .before .before .before .number .ensures, ← c .before .mark-right .ensures, eq-eqb _ 0 (c .before .before .if1 .left), c .if2 .left)
+returns c =
+    let b = c .before in
+    let k = b .before .before .before .before in
+    c .first-of .ensures
+    ∙ rw (b .unless2 .ensures, b .before .before .unless .ensures, ← k .number .ensures, ← b .before .before .before .mark-right .ensures, ← b .before .header-right .ensures)
+    (in-order (k .number .result) (b .before .before .before .mark-right .result) (b .before .header-right .result))
 
 pub block-number-spec : {M : Type 1} → statement M
 block-number-spec =
     tie.close
     (tie.spec
     number-requires
-    returns
     mark-right-requires
+    unless-requires
     header-right-requires
-    returns-2
-    returns-3
-    returns-4)
+    unless-requires-2
+    first-of-requires
+    returns)
