@@ -6,9 +6,10 @@ use mathlib.Core.Bool.{Bool}
 use mathlib.Core.Logic.{inr}
 use mathlib.Core.List.{List, _∷_}
 use native.Mathlib.Omega.{arith}
-use Rattle.lists.specs.Below.{Below, below-head, below-tail, below-cons}
+use lib.ListN.{take}
+use Rattle.lists.specs.Below.{Below, below-head, below-tail, below-cons, below-take}
 use Rattle.lists.specs.Chosen.{chosen, chosen-in, different-chosen, below-chosen}
-use Rattle.lists.specs.Different.{Different}
+use Rattle.lists.specs.Different.{Different, different-take}
 use Rattle.lists.specs.From.{from, different-from, below-from}
 use Rattle.lists.specs.Member.{In, below-in}
 
@@ -42,6 +43,9 @@ pub points-chosen-beside : {q a : ℕ} {xs : List ℕ} (f : ℕ → Bool) → Po
 points-chosen-beside {q} {a} {xs} f P =
     let T = points-chosen f (points-tail P) in
     record { below = below-cons q a (chosen f xs) (points-head P) (T .below); different = ((λ m. P .different .0 (chosen-in f xs a m)), T .different) }
+
+pub points-take : {q : ℕ} {xs : List ℕ} (n : ℕ) → Points q xs → Points q (take n xs)
+points-take {q} {xs} n P = record { below = below-take q n xs (P .below); different = different-take n xs (P .different) }
 
 pub points-from : (q a k : ℕ) → a + k ≤ q → Points q (from a k)
 points-from q a k l = record { below = below-from q a k l; different = different-from a k }

@@ -1,7 +1,6 @@
 -- A list whose numbers all lie below a bound: bytes below 256, field words below q.
 -- Assumes nothing.
-use Prim.Native.Nat.{ℕ, zero, suc, _+_, _<_, _≤_, suc-le-suc, zero-le}
-use mathlib.Core.Path.{_≡_, refl, subst, sym}
+use Prim.Native.Nat.{ℕ, zero, suc, _<_, suc-le-suc, zero-le}
 use mathlib.Core.List.{List, [], _∷_, _++_}
 use native.Mathlib.Nat.{le-of-suc-le-suc, not-suc-le-zero}
 use lib.ListN.{length, getD, take, drop}
@@ -17,6 +16,12 @@ below-head q x xs b = b 0 (suc-le-suc zero-le)
 
 pub below-tail : (q x : ℕ) (xs : List ℕ) → Below q (x ∷ xs) → Below q xs
 below-tail q x xs b i h = b (suc i) (suc-le-suc h)
+
+-- past its end a list reads as 0
+pub below-any : (q : ℕ) (xs : List ℕ) → 0 < q → Below q xs → (i : ℕ) → getD xs i 0 < q
+below-any q [] z b i = z
+below-any q (x ∷ xs) z b zero = below-head q x xs b
+below-any q (x ∷ xs) z b (suc i) = below-any q xs z (below-tail q x xs b) i
 
 pub below-cons : (q x : ℕ) (xs : List ℕ) → x < q → Below q xs → Below q (x ∷ xs)
 below-cons q x xs hx b zero h = hx

@@ -4,12 +4,17 @@ use Prim.Native.Nat.{ℕ, zero, suc, _<_}
 use mathlib.Core.Path.{_≡_, refl, sym, ap, subst}
 use mathlib.Core.List.{List, [], _∷_}
 use native.Mathlib.Nat.{le-of-suc-le-suc, not-suc-le-zero}
-use lib.ListN.{length, getD}
-use Rattle.lists.specs.Member.{In, in-getD}
+use lib.ListN.{length, getD, take}
+use Rattle.lists.specs.Member.{In, in-getD, in-take}
 
 abbrev pub Different : List ℕ → Type 0
 Different [] = Unit {0}
 Different (x ∷ xs) = (In x xs → ⊥) × Different xs
+
+pub different-take : (n : ℕ) (xs : List ℕ) → Different xs → Different (take n xs)
+different-take zero xs d = tt
+different-take (suc n) [] d = tt
+different-take (suc n) (x ∷ xs) d = ((λ m. d .0 (in-take n x xs m)), different-take n xs (d .1))
 
 -- two places that hold the same number are one place
 pub different-at : (xs : List ℕ) → Different xs → (i j : ℕ) → i < length xs → j < length xs → getD xs i 0 ≡ getD xs j 0 → i ≡ j

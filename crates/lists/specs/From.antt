@@ -4,7 +4,7 @@ use Prim.Native.Nat.{ℕ, zero, suc, _+_, _≤_, _<_}
 use mathlib.Core.Path.{_≡_, refl, ap, sym, _∙_}
 use mathlib.Core.Logic.{inl, inr, ⊎-elim}
 use mathlib.Core.List.{List, [], _∷_, _++_}
-use native.Mathlib.Nat.{add-zero, eq-or-lt-of-le, not-suc-le-zero, le-of-suc-le-suc}
+use native.Mathlib.Nat.{zero-add, add-zero, suc-add, eq-or-lt-of-le, not-suc-le-zero, le-of-suc-le-suc}
 use native.Mathlib.Omega.{arith}
 use lib.ListN.{length, getD}
 use Rattle.lists.specs.Below.{Below}
@@ -34,6 +34,12 @@ pub from-suc : (a k : ℕ) → from a (suc k) ≡ from a k ++ ((a + k) ∷ [])
 unfolding from
 from-suc a zero = rw (add-zero a)
 from-suc a (suc k) = ap {B = List ℕ} (λ r. a ∷ r) (from-suc (suc a) k ∙ rw (suc-add-suc a k))
+
+-- the first k of them, and the rest
+pub from-add : (a k d : ℕ) → from a (k + d) ≡ from a k ++ from (a + k) d
+unfolding from
+from-add a zero d = rw (zero-add d, add-zero a)
+from-add a (suc k) d = rw (suc-add k d) (ap {B = List ℕ} (λ r. a ∷ r) (from-add (suc a) k d ∙ rw (suc-add-suc a k)))
 
 -- to stand among them is to lie from a up to a + k
 pub from-in : (a k x : ℕ) → In x (from a k) → (a ≤ x) × (x < a + k)

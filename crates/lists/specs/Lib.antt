@@ -16,3 +16,11 @@ pub mod Pieces
 pub mod Total
 pub mod Parts
 pub mod Zeros
+pub mod AllTo
+pub mod AllToLaws
+pub mod KeeperSet
+pub mod KeeperSetLaws
+pub mod Rising
+pub mod SameTest
+pub mod SameBytes
+pub mod PatchedAt

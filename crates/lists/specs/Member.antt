@@ -5,7 +5,7 @@ use mathlib.Core.Path.{_≡_, refl, subst, sym}
 use mathlib.Core.Logic.{_⊎_, inl, inr, ⊎-elim}
 use mathlib.Core.List.{List, [], _∷_, _++_}
 use native.Mathlib.Nat.{le-of-suc-le-suc, not-suc-le-zero}
-use lib.ListN.{length, getD}
+use lib.ListN.{length, getD, take}
 use Rattle.lists.specs.Below.{Below}
 
 abbrev pub In : ℕ → List ℕ → Type 0
@@ -25,6 +25,12 @@ in-every P (y ∷ ys) h x (inr m) = in-every P ys (λ i k. h (suc i) (suc-le-suc
 
 pub below-in : (q : ℕ) (xs : List ℕ) → Below q xs → (x : ℕ) → In x xs → x < q
 below-in q xs b = in-every (λ (x : ℕ). x < q) xs b
+
+pub in-take : (n x : ℕ) (xs : List ℕ) → In x (take n xs) → In x xs
+in-take zero x xs m = absurd m
+in-take (suc n) x [] m = absurd m
+in-take (suc n) x (y ∷ ys) (inl e) = inl e
+in-take (suc n) x (y ∷ ys) (inr m) = inr (in-take n x ys m)
 
 pub in-append-left : (x : ℕ) (xs ys : List ℕ) → In x xs → In x (xs ++ ys)
 in-append-left x [] ys m = absurd m

@@ -1,0 +1,12 @@
+pub mod AgreedLaws
+pub mod Agreement
+pub mod AgreementLaws
+pub mod Collected
+pub mod InStepLaws
+pub mod Kept
+pub mod KeptLaws
+pub mod NarrowedLaws
+pub mod Recovers
+pub mod Rows
+pub mod ReachesLaws
+pub mod ScanLaws

@@ -1,0 +1,5 @@
+pub mod Base
+pub mod Carried
+pub mod Search
+pub mod SearchLaws
+pub mod TriedLaws

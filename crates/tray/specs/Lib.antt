@@ -1,0 +1,4 @@
+pub mod Scan
+pub mod SlotLaws
+pub mod Tray
+pub mod UsableLaws

@@ -1,0 +1,32 @@
+-- A tray, and which of its slots are usable.
+-- Assumes nothing.
+use Prim.Native.Nat.{ℕ, _-_, _*_}
+use mathlib.Core.Bool.{Bool, false}
+use mathlib.Core.List.{List}
+use lib.ListN.{getD, take, drop}
+use Rattle.format.specs.declared.order.Order.{Order}
+use Rattle.format.specs.declared.head.Head.{Head}
+use Rattle.format.specs.declared.reader.Reading.{Reading}
+use Rattle.format.specs.declared.reader.Reading.the-variants.{Good, Bad}
+use Rattle.format.specs.Head.{sameHead}
+use Rattle.format.specs.Reading.{readOf, sharesOf}
+
+-- "A tray is n slots, slot number x belonging to keeper x." A slot is 2,048 bytes.
+unfoldable pub slotOf : List ℕ → ℕ → List ℕ
+slotOf tray x = take 2048 (drop (2048 * (x - 1)) tray)
+
+-- the head that keeper x's letter has
+abbrev pub headFor : Order → ℕ → ℕ → ℕ → Head
+headFor order stamp l x = record { order = order; keeper = x; stamp = stamp; length = l }
+
+abbrev pub readsAs : Reading → Head → Bool
+readsAs (Good h) told = sameHead h told
+readsAs (Bad number place) told = false
+
+-- "A slot is usable if its letter reads as good and has this order, stamp and length and this slot's keeper number."
+unfoldable pub usable : Order → ℕ → ℕ → List ℕ → ℕ → Bool
+usable order stamp l tray x = readsAs (readOf (slotOf tray x)) (headFor order stamp l x)
+
+-- word i of keeper x's letter of l
+unfoldable pub wordOf : List ℕ → ℕ → ℕ → ℕ → ℕ
+wordOf tray l x i = getD (sharesOf (slotOf tray x) l) i 0
