@@ -4,7 +4,7 @@ use Prim.Native.Nat.{ℕ}
 use Rattle.format.specs.declared.head.Head.{Head}
 use Rattle.format.specs.declared.reader.Reading.{Reading}
 use Rattle.format.specs.Reading.{numberOf, placeOf, readHead}
-use Rattle.exports.specs.declared.read.ReadResult.{ReadResult}
+use Rattle.exports.specs.declared.reading.ReadResult.{ReadResult}
 
 -- "A good letter answers 0 with its header's numbers and place 0." "Unless stated, every other number in a refusal's result is 0."
 abbrev pub numbers : ℕ → ℕ → Head → ReadResult

@@ -1,2 +1,4 @@
 // The public calls for C, Rust and Python: plain numbers and slices.
-pub mod read;
+pub mod cutting;
+pub mod reading;
+mod told;

@@ -1,10 +1,10 @@
--- `exports::read::good` meets its contract: a lawful head's numbers fit 32 bits.
+-- `exports::reading::good` meets its contract: a lawful head's numbers fit 32 bits.
 -- Assumes nothing.
 use native.Mathlib.Omega.{arith}
 use borrow.Author.Needs.{needs}
 use Rattle.format.specs.HeadLaws.{lawful-head-facts}
-use Rattle.exports.proofs.read.good.Statement.{statement}
-use Rattle.exports.proofs.read.good.Tie as tie
+use Rattle.exports.proofs.reading.good.Statement.{statement}
+use Rattle.exports.proofs.reading.good.Tie as tie
 
 cast-t3 : tie.Need-cast-t3
 cast-t3 c = let s = c .before .before in omega (arith, lawful-head-facts (s .args .h) (s .pre))

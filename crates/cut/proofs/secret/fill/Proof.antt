@@ -1,0 +1,52 @@
+-- `cut::secret::fill` meets its contract.
+-- Assumes nothing.
+use native.Mathlib.Omega.{arith}
+use Rattle.lists.specs.Below.{Below}
+use Rattle.field.specs.Modulo.{mod257}
+use Rattle.cut.specs.CutLaws.{CutFacts, accepted-facts}
+use Rattle.cut.specs.Letters.{laid-lent, laid-cut}
+use borrow.Author.Needs.{needs}
+use Rattle.cut.proofs.secret.fill.Statement.{statement}
+use Rattle.cut.proofs.secret.fill.Tie as tie
+
+facts : (c : tie.Start) → CutFacts (c .args .o) (c .args .stamp) (c .args .secret .now) (c .args .random .now) (c .args .tray .now)
+facts c = accepted-facts _ _ _ _ _ (c .pre .0)
+
+bytes : (c : tie.After-shared-slice-known) → Below 257 (c .before .args .secret .now)
+bytes c i h = omega (arith, c .shared-slice-known .given i)
+
+lay-out-requires : tie.Need-lay-out-requires
+lay-out-requires c κs = let start = c .before .before .before .before .before .before in (facts start .words-lent, start .pre .1 .0)
+
+write-letters-requires : tie.Need-write-letters-requires
+write-letters-requires c κs =
+    let laid = c .before .before .before .before .before in
+    let known = laid .before .before .before .before .before .before in
+    laid-lent _ _ _ _ _ _ (laid .lay-out .ensures) (known .before .pre .1 .1) _ (facts (known .before)) (bytes known)
+
+same-length : tie.Need-same-length
+same-length c = search needs
+
+same-length-2 : tie.Need-same-length-2
+same-length-2 c = search needs
+
+same-length-3 : tie.Need-same-length-3
+same-length-3 c = search needs
+
+returns : tie.Need-returns
+returns c =
+    let written = c .before .before .before .before in
+    let laid = written .before .before .before .before .before .before in
+    let start = laid .before .before .before .before .before .before .before in
+    laid-cut _ _ _ _ _ _ (laid .lay-out .ensures) (start .pre .1 .1) mod257 _ (facts start .words-lent) (written .write-letters .ensures)
+
+pub fill-spec : {M : Type 1} → statement M
+fill-spec =
+    tie.close
+    (tie.spec
+    lay-out-requires
+    write-letters-requires
+    same-length
+    same-length-2
+    same-length-3
+    returns)

@@ -1,0 +1,9 @@
+pub mod Columns
+pub mod ColumnLaws
+pub mod Cut
+pub mod CutLaws
+pub mod Horner
+pub mod Letters
+pub mod ShareWords
+pub mod LetterField
+pub mod OneCut

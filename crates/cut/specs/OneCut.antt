@@ -1,0 +1,75 @@
+-- One cut, and what stands in each slot of its tray.
+-- Assumes nothing.
+use Prim.Native.Nat.{ℕ, suc, _*_, _-_}
+use mathlib.Core.Path.{_≡_, _∙_}
+use mathlib.Core.Bool.{true}
+use mathlib.Core.List.{List}
+use native.Mathlib.Nat.{mul-comm}
+use native.Mathlib.Omega.{arith}
+use lib.ListN.{length}
+use Rattle.lists.specs.Below.{Below}
+use Rattle.lists.specs.Pieces.{length-pieces, part-pieces, below-pieces}
+use Rattle.algebra.specs.Field.{Ops}
+use Rattle.format.specs.declared.order.Order.{Order}
+use Rattle.format.specs.Order.{lawfulOrder}
+use Rattle.format.specs.OrderLaws.{KeeperFacts, facts-lawful-keeper}
+use Rattle.format.specs.Head.{lawfulHead, lawfulLength, lawfulStamp}
+use Rattle.format.specs.declared.reader.Reading.the-variants.{Good}
+use Rattle.format.specs.Reading.{readOf, sharesOf}
+use Rattle.format.specs.WrittenReads.{Reads, written-reads}
+use Rattle.tray.specs.Tray.{headFor, slotOf}
+use Rattle.cut.specs.Cut.{shareWords, letterOf, cutTray}
+use Rattle.cut.specs.LetterField.{LetterField}
+use Rattle.cut.specs.ShareWords.{length-share-words, below-share-words}
+
+-- What one cut is given: a lawful order, stamp and length, constants that are field words, and "exactly L*t random words".
+pub record OneCut (O : Ops) (order : Order) (stamp : ℕ) (constants random : List ℕ) : Type 0 where
+  pub order-lawful : lawfulOrder order ≡ true
+  pub stamp-lawful : lawfulStamp stamp ≡ true
+  pub length-lawful : lawfulLength (length constants) ≡ true
+  pub constants-below : Below (O .q) constants
+  pub random-size : length random ≡ length constants * order .t
+  pub random-below : Below (O .q) random
+
+module _ {O : Ops} (F : LetterField O) {order : Order} {stamp : ℕ} {constants random : List ℕ} (C : OneCut O order stamp constants random) where
+  head-lawful : (x : ℕ) → KeeperFacts order x → lawfulHead (headFor order stamp (length constants) x) ≡ true
+  unfolding lawfulHead
+  head-lawful x k = rw (C .order-lawful, facts-lawful-keeper order x k, C .stamp-lawful) (C .length-lawful)
+
+  -- keeper x's letter reads as written
+  pub letter-reads : (x : ℕ) → KeeperFacts order x → Reads (headFor order stamp (length constants) x) (shareWords O (order .t) x constants random)
+  letter-reads x k =
+      written-reads (headFor order stamp (length constants) x) (shareWords O (order .t) x constants random) (head-lawful x k)
+      (length-share-words O (order .t) x constants random)
+      (λ i h. omega (arith, F .most, below-share-words O (order .t) x (F .laws) constants random i h))
+
+  length-letter : (x : ℕ) → KeeperFacts order x → length (letterOf O order stamp constants random x) ≡ 2048
+  unfolding letterOf
+  length-letter x k = letter-reads x k .size
+
+  pub length-cut-tray : length (cutTray O order stamp constants random) ≡ 2048 * order .n
+  unfolding cutTray
+  length-cut-tray = length-pieces 2048 (λ k. letterOf O order stamp constants random (suc k)) (order .n) (λ i h. length-letter (suc i) (omega arith)) ∙ mul-comm (order .n) 2048
+
+  below-letter : (x : ℕ) → KeeperFacts order x → Below 256 (letterOf O order stamp constants random x)
+  unfolding letterOf
+  below-letter x k = letter-reads x k .bytes
+
+  pub below-cut-tray : Below 256 (cutTray O order stamp constants random)
+  unfolding cutTray
+  below-cut-tray = below-pieces 256 (λ k. letterOf O order stamp constants random (suc k)) (order .n) (λ i h. below-letter (suc i) (omega arith))
+
+  pub slot-cut : (x : ℕ) → KeeperFacts order x → slotOf (cutTray O order stamp constants random) x ≡ letterOf O order stamp constants random x
+  unfolding slotOf cutTray
+  slot-cut x k =
+      let e : suc (x - 1) ≡ x = omega arith in
+      part-pieces 2048 (λ k. letterOf O order stamp constants random (suc k)) (order .n) (λ i h. length-letter (suc i) (omega arith)) (x - 1) (omega arith) ∙ rw e
+
+  -- what its owner reads there
+  pub read-cut : (x : ℕ) → KeeperFacts order x → readOf (slotOf (cutTray O order stamp constants random) x) ≡ Good (headFor order stamp (length constants) x)
+  unfolding letterOf
+  read-cut x k = rw (slot-cut x k) (letter-reads x k .good)
+
+  pub shares-cut : (x : ℕ) → KeeperFacts order x → sharesOf (slotOf (cutTray O order stamp constants random) x) (length constants) ≡ shareWords O (order .t) x constants random
+  unfolding letterOf
+  shares-cut x k = rw (slot-cut x k) (letter-reads x k .same-shares)

@@ -1,0 +1,93 @@
+// A keeper's share words, a whole row at a time: the constants and the coefficients stand in columns, one for each power of x.
+ghost use mathlib.Core.Path.{_≡_};
+ghost use Prim.Native.Nat.{_+_, _*_, _≤_, _<_};
+ghost use lib.ListN.{length, getD};
+ghost use Rattle.lists.specs.Below.{Below};
+ghost use Rattle.lists.specs.Listed.{listed};
+ghost use Rattle.field.specs.Modulo.{mod257};
+ghost use Rattle.cut.specs.Columns.{columnsOf, valuesFrom};
+
+fn wide(byte: u8) -> u16
+    ensures { λ r. ⌜ r ≡ byte ⌝ }
+{
+    byte as u16
+}
+
+// The constants: the secret's bytes.
+fn put_constants(secret: &[u8], column: &mut [u16])
+    requires { ⌜ length (now column) ≡ length (now secret) ⌝ }
+    ensures { λ _. ⌜ now (column .exit) ≡ now (secret .entry) ⌝ }
+{
+    let mut i = 0;
+    while i < secret.len() {
+        column[i] = wide(secret[i]);
+        i += 1;
+    }
+}
+
+// The coefficients of x^(j + 1): word j of each t random words.
+fn put_coefficients(random: &[u16], t: usize, j: usize, column: &mut [u16])
+    requires { ⌜ length (now random) ≡ length (now column) * t ⌝ ∗ ⌜ j < t ⌝ }
+    ensures { λ _. ⌜ now (column .exit) ≡ listed (λ i. getD (now (random .entry)) (i * t + j) 0) (length (now (column .entry))) ⌝ }
+{
+    let mut i = 0;
+    while i < column.len() {
+        column[i] = random[i * t + j];
+        i += 1;
+    }
+}
+
+// Lays the constants and the t columns of coefficients out, end to end.
+pub fn lay_out(secret: &[u8], random: &[u16], t: usize, columns: &mut [u16])
+    requires { ⌜ length (now random) ≡ length (now secret) * t ⌝ ∗ ⌜ length (now columns) ≡ length (now secret) * (t + 1) ⌝ }
+    ensures { λ _. ⌜ now (columns .exit) ≡ columnsOf t (now (secret .entry)) (now (random .entry)) ⌝ }
+{
+    let l = secret.len();
+    put_constants(secret, &mut columns[..l]);
+    let mut j = 0;
+    while j < t {
+        let at = l * (j + 1);
+        put_coefficients(random, t, j, &mut columns[at..at + l]);
+        j += 1;
+    }
+}
+
+// Copies a column to a row of its length.
+fn copy(column: &[u16], row: &mut [u16])
+    requires { ⌜ length (now row) ≡ length (now column) ⌝ }
+    ensures { λ _. ⌜ now (row .exit) ≡ now (column .entry) ⌝ }
+{
+    let mut i = 0;
+    while i < row.len() {
+        row[i] = column[i];
+        i += 1;
+    }
+}
+
+// One step of Horner's rule, along a row. No word of it exceeds 256 * 16 + 256.
+fn step(row: &mut [u16], x: u16, column: &[u16])
+    requires { ⌜ length (now row) ≡ length (now column) ⌝ ∗ ⌜ Below 257 (now row) ⌝ ∗ ⌜ Below 257 (now column) ⌝ ∗ ⌜ x ≤ 16 ⌝ }
+    ensures { λ _. ⌜ now (row .exit) ≡ listed (λ i. mod257 .add (getD (now (column .entry)) i 0) (mod257 .mul x (getD (now (row .entry)) i 0))) (length (now (row .entry))) ⌝ }
+{
+    let mut i = 0;
+    while i < row.len() {
+        row[i] = (row[i] * x + column[i]) % 257;
+        i += 1;
+    }
+}
+
+// The values at x of the polynomials across t + 1 columns, from the highest power down.
+pub fn share_row(columns: &[u16], t: usize, x: u16, row: &mut [u16])
+    requires { ⌜ length (now columns) ≡ length (now row) * (t + 1) ⌝ ∗ ⌜ Below 257 (now columns) ⌝ ∗ ⌜ x ≤ 16 ⌝ }
+    ensures { λ _. ⌜ now (row .exit) ≡ valuesFrom mod257 (now (columns .entry)) (length (now (row .entry))) t x 0 ⌝ }
+{
+    let l = row.len();
+    let last = l * t;
+    copy(&columns[last..last + l], row);
+    let mut j = t;
+    while 0 < j {
+        j -= 1;
+        let at = l * j;
+        step(row, x, &columns[at..at + l]);
+    }
+}

@@ -1,0 +1,50 @@
+// The cut of a secret.
+ghost use mathlib.Core.Path.{_≡_};
+ghost use Prim.Native.Nat.{_+_, _*_};
+ghost use lib.ListN.{length};
+ghost use Rattle.field.specs.Modulo.{mod257};
+ghost use Rattle.cut.specs.Cut.{cutNumber, cutTray, CutDone};
+use crate::letters::write_letters;
+use crate::refusal::refusal;
+use crate::rows::lay_out;
+use format::order::Order;
+
+// Fills a tray with a letter for each keeper. The columns and the row are room to work in.
+fn fill(
+    o: Order,
+    stamp: u32,
+    secret: &[u8],
+    random: &[u16],
+    columns: &mut [u16],
+    row: &mut [u16],
+    tray: &mut [u8],
+)
+    requires { ⌜ cutNumber o stamp (now secret) (now random) (now tray) ≡ 0 ⌝ ∗ ⌜ length (now columns) ≡ length (now secret) * (o .t + 1) ⌝ ∗ ⌜ length (now row) ≡ length (now secret) ⌝ }
+    ensures { λ _. ⌜ now (tray .exit) ≡ cutTray mod257 o stamp (now (secret .entry)) (now (random .entry)) ⌝ }
+{
+    lay_out(secret, random, o.t, columns);
+    write_letters(o, stamp, columns, row, tray);
+}
+
+// Cuts a secret into letters. A refused cut leaves the tray as it was. 7616 words are the longest secret's eight columns.
+pub fn cut(o: Order, stamp: u32, secret: &[u8], random: &[u16], tray: &mut [u8]) -> u32
+    ensures { λ r. ⌜ CutDone mod257 o stamp (now (secret .entry)) (now (random .entry)) (now (tray .entry)) r (now (tray .exit)) ⌝ }
+{
+    let number = refusal(o, stamp, secret, random, tray);
+    if number == 0 {
+        let l = secret.len();
+        let size = l * (o.t + 1);
+        let mut columns = [0u16; 7616];
+        let mut row = [0u16; 952];
+        fill(
+            o,
+            stamp,
+            secret,
+            random,
+            &mut columns[..size],
+            &mut row[..l],
+            tray,
+        );
+    }
+    number
+}
