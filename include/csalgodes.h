@@ -63,6 +63,21 @@ typedef struct {
  */
 cs_read_result cs_read(const uint8_t *slot, size_t slot_length);
 
+/*
+ * Cuts a secret into a tray: keeper x's letter goes to slot x. For byte i of the secret the
+ * coefficients of x, x^2, .. x^t are random words i*t .. i*t+t-1; each is 0..256, and each value must be
+ * as likely as any other. Random words are used once.
+ *
+ * Lent: the secret, 1..952 bytes, and exactly t random words a byte, both read only; the tray,
+ * n*2048 bytes, written whole where the answer is 0.
+ *
+ * Answers 0, 1, 2, 3, 4 or 5.
+ */
+uint32_t cs_cut(uint32_t t, uint32_t f, uint32_t n, uint32_t stamp,
+                const uint8_t *secret, size_t secret_length,
+                const uint16_t *random, size_t random_count,
+                uint8_t *tray, size_t tray_length);
+
 #ifdef __cplusplus
 }
 #endif

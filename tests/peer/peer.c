@@ -62,10 +62,14 @@ static void answer_read(const uint8_t *slot, size_t size) {
 
 /* Whether there is such a call. */
 static int answer(void) {
-    uint8_t *first = memory[0] + GUARD;
-    const uint32_t *size = request.size;
+    uint8_t *first = memory[0] + GUARD, *second = memory[1] + GUARD, *third = memory[2] + GUARD;
+    const uint32_t *number = request.number, *size = request.size;
     switch (request.call) {
     case 0: answer_read(first, size[0]); return 1;
+    case 1:
+        result[0] = cs_cut(number[0], number[1], number[2], number[3], first, size[0],
+                           (const uint16_t *)second, size[1] / 2, third, size[2]);
+        return 1;
     default: return 0;
     }
 }

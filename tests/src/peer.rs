@@ -10,6 +10,8 @@
 use std::io::{BufReader, Read, Write};
 use std::process::{Child, ChildStdin, ChildStdout, Command, Stdio};
 
+use crate::order::Order;
+
 const NUMBERS: usize = 5;
 const PARTS: usize = 3;
 const RESULTS: usize = 8;
@@ -88,6 +90,22 @@ impl Peer {
         let Reply { numbers, left } = self.call(0, &[], &[slot]);
         assert!(left[0] == slot, "the slot is only lent to be read");
         numbers
+    }
+
+    pub fn cut(
+        &mut self,
+        order: Order,
+        stamp: u32,
+        secret: &[u8],
+        random: &[u16],
+        tray: &mut [u8],
+    ) -> u32 {
+        let random: Vec<u8> = random.iter().flat_map(|word| word.to_le_bytes()).collect();
+        let numbers = [order.t, order.f, order.n, stamp];
+        let Reply { numbers, left } = self.call(1, &numbers, &[secret, &random, tray]);
+        assert!(left[0] == secret && left[1] == random, "both are only lent to be read");
+        tray.copy_from_slice(&left[2]);
+        numbers[0]
     }
 }
 
