@@ -10,3 +10,4 @@ pub mod Recovers
 pub mod Rows
 pub mod ReachesLaws
 pub mod ScanLaws
+pub mod PastLaws

@@ -1,35 +1,20 @@
 -- The letters of columns: what the cut writes once the secret and the random words are laid out.
 -- Assumes nothing.
-use Prim.Native.Nat.{ℕ, suc, _+_, _*_, _<_, _≤_}
-use mathlib.Core.Path.{_≡_, ap, _∙_}
-use mathlib.Core.Bool.{true}
+use Prim.Native.Nat.{ℕ, _+_, _*_, _≤_}
+use mathlib.Core.Path.{_≡_}
 use mathlib.Core.List.{List}
-use native.Mathlib.Numerals.{add-one}
-use native.Mathlib.Omega.{arith}
 use lib.ListN.{length}
 use Rattle.lists.specs.Below.{Below}
-use Rattle.lists.specs.Pieces.{pieces, pieces-same}
 use Rattle.algebra.specs.Field.{Ops}
 use Rattle.format.specs.declared.order.Order.{Order}
-use Rattle.format.specs.Head.{lawfulHead}
-use Rattle.format.specs.HeadLaws.{facts-lawful-head}
 use Rattle.format.specs.OrderLaws.{OrderFacts}
 use Rattle.format.specs.Letter.{letterBytes}
 use Rattle.tray.specs.Tray.{headFor}
-use Rattle.cut.specs.Columns.{columnsOf, valuesFrom}
-use Rattle.cut.specs.ColumnLaws.{length-columns, below-columns, values-shares}
-use Rattle.cut.specs.Cut.{letterOf, cutTray}
-use Rattle.cut.specs.CutLaws.{CutFacts}
+use Rattle.cut.specs.Columns.{valuesFrom}
 
 -- keeper x's letter, of columns of l words
 abbrev pub letterFrom : Ops → Order → ℕ → List ℕ → ℕ → ℕ → List ℕ
 letterFrom O order stamp columns l x = letterBytes (headFor order stamp l x) (valuesFrom O columns l (order .t) x 0)
-
--- it stands in its slot once a row has been filled with its share words and written
-pub letter-written : (O : Ops) (order : Order) (stamp : ℕ) (columns : List ℕ) (l x y : ℕ) (row slot : List ℕ)
-    → y ≡ x → row ≡ valuesFrom O columns l (order .t) y 0 → slot ≡ letterBytes (headFor order stamp l x) row → slot ≡ letterFrom O order stamp columns l x
-letter-written O order stamp columns l x y row slot same filled written =
-    written ∙ ap (letterBytes (headFor order stamp l x)) (filled ∙ ap (λ (z : ℕ). valuesFrom O columns l (order .t) z 0) same)
 
 -- what is lent to write them: columns, a row of l words to work in, and a tray of so many bytes
 pub record LettersLent (order : Order) (stamp : ℕ) (columns : List ℕ) (l bytes : ℕ) : Type 0 where
@@ -41,41 +26,3 @@ pub record LettersLent (order : Order) (stamp : ℕ) (columns : List ℕ) (l byt
   pub columns-lent : length columns ≡ l * (order .t + 1)
   pub columns-within : Below 257 columns
   pub tray-lent : bytes ≡ 2048 * order .n
-
--- each keeper's head is lawful
-pub lent-lawful : {order : Order} {stamp l bytes : ℕ} {columns : List ℕ} → LettersLent order stamp columns l bytes
-    → (k : ℕ) → k < order .n → lawfulHead (headFor order stamp l (k + 1)) ≡ true
-lent-lawful {order} {stamp} {l} lent k h =
-    facts-lawful-head (headFor order stamp l (k + 1))
-    (record {
-      of-order = lent .of-order;
-      of-keeper = omega arith;
-      stamp-least = lent .stamp-least;
-      stamp-most = lent .stamp-most;
-      length-least = lent .length-least;
-      length-most = lent .length-most;
-    })
-
-module _ (order : Order) (stamp : ℕ) (secret random columns : List ℕ) (l : ℕ) (laid : columns ≡ columnsOf (order .t) secret random) (long : l ≡ length secret) where
-  -- laid out, the letters are lent what they want
-  pub laid-lent : (tray : List ℕ) → CutFacts order stamp secret random tray → Below 257 secret → LettersLent order stamp columns l (length tray)
-  laid-lent tray facts bytes =
-      record {
-        of-order = facts .of-order;
-        stamp-least = facts .stamp-least;
-        stamp-most = facts .stamp-most;
-        length-least = omega arith;
-        length-most = omega arith;
-        columns-lent = rw (laid, long, add-one) (length-columns (order .t) secret random);
-        columns-within = rw laid (below-columns (order .t) secret random (facts .words-lent) 257 bytes (facts .words-within));
-        tray-lent = facts .tray-lent;
-      }
-
-  -- and they are the cut's
-  pub laid-cut : (O : Ops) (left : List ℕ) → length random ≡ length secret * order .t
-      → left ≡ pieces (λ k. letterFrom O order stamp columns l (suc k)) (order .n) → left ≡ cutTray O order stamp secret random
-  unfolding cutTray letterOf
-  laid-cut O left size written =
-      written
-      ∙ pieces-same _ _ (order .n)
-      (λ k h. rw (laid, long) (ap (letterBytes (headFor order stamp (length secret) (suc k))) (values-shares (order .t) secret random size O (suc k))))

@@ -1,4 +1,5 @@
 // The cut: a secret and random words become a letter for each keeper.
+mod columns;
 mod letters;
 mod refusal;
 mod rows;

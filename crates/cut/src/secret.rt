@@ -4,9 +4,9 @@ ghost use Prim.Native.Nat.{_+_, _*_};
 ghost use lib.ListN.{length};
 ghost use Rattle.field.specs.Modulo.{mod257};
 ghost use Rattle.cut.specs.Cut.{cutNumber, cutTray, CutDone};
+use crate::columns::lay_out;
 use crate::letters::write_letters;
 use crate::refusal::refusal;
-use crate::rows::lay_out;
 use format::order::Order;
 
 // Fills a tray with a letter for each keeper. The columns and the row are room to work in.

@@ -1,2 +1,3 @@
+pub mod Join
 pub mod Read
 pub mod Told

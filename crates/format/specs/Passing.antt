@@ -1,7 +1,9 @@
 -- What it says that a row of tests is passed.
 -- Assumes nothing.
-use mathlib.Core.Path.{_≡_}
-use mathlib.Core.Bool.{Bool, true, _&&_, and-eq-true-iff}
+use Prim.Native.Nat.{ℕ, suc}
+use mathlib.Core.Path.{_≡_, refl}
+use mathlib.Core.Bool.{Bool, true, false, cond, _&&_, and-eq-true-iff}
+use native.Mathlib.Omega.{arith}
 use borrow.Author.Tests.{leb-true, eqb-true, le-leb, eq-eqb}
 
 pub and-left : (a b : Bool) → (a && b) ≡ true → a ≡ true
@@ -15,3 +17,8 @@ pub ruleset passed = (and-left, and-right, leb-true, eqb-true)
 
 -- for `simp`: each test, of its fact
 pub ruleset passes = (le-leb, eq-eqb)
+
+-- a test that would give a number, where none is given: it passes, and so does the rest
+pub passing : (test : Bool) (rest number : ℕ) → cond test rest (suc number) ≡ 0 → (test ≡ true) × (rest ≡ 0)
+passing true rest number e = (refl, e)
+passing false rest number e = absurd (omega arith)

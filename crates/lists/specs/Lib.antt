@@ -24,3 +24,4 @@ pub mod Rising
 pub mod SameTest
 pub mod SameBytes
 pub mod PatchedAt
+pub mod KeeperSetPast

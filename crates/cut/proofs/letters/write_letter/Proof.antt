@@ -1,10 +1,10 @@
--- `cut::letters::write_letter` meets its contract.
+-- `cut::letters::write_letter` meets its contract: the row is filled, and then written.
 -- Assumes nothing.
 use Prim.Native.Nat.{_≤_}
 use native.Mathlib.Omega.{arith}
 use Rattle.field.specs.Modulo.{mod257}
 use Rattle.format.specs.HeadLaws.{lawful-head-facts}
-use Rattle.cut.specs.Letters.{letter-written}
+use Rattle.cut.specs.LetterLaws.{letter-written}
 use borrow.Author.Needs.{needs}
 use Rattle.cut.proofs.letters.write_letter.Statement.{statement}
 use Rattle.cut.proofs.letters.write_letter.Tie as tie

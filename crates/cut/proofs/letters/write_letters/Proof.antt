@@ -6,7 +6,8 @@ use native.Mathlib.Numerals.{add-one}
 use native.Mathlib.Omega.{arith}
 use lib.ListN.{length, take, drop}
 use Rattle.field.specs.Modulo.{mod257}
-use Rattle.cut.specs.Letters.{letterFrom, lent-lawful}
+use Rattle.cut.specs.LetterLaws.{lent-lawful}
+use Rattle.cut.specs.Letters.{letterFrom}
 use Rattle.cut.proofs.Laying.{length-part, Laying, laying-none, laying-more, laying-done}
 use borrow.Author.Needs.{needs}
 use Rattle.cut.proofs.letters.write_letters.Statement.{statement}

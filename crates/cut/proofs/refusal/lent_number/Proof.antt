@@ -1,6 +1,6 @@
--- `cut::refusal::lent_number` meets its contract.
+-- `cut::refusal::lent_number` meets its contract, whichever of the two answers is looked at first.
 -- Assumes nothing.
-use mathlib.Core.Path.{sym, _∙_}
+use mathlib.Core.Path.{sym}
 use borrow.Author.Needs.{needs}
 use Rattle.cut.proofs.refusal.lent_number.Statement.{statement}
 use Rattle.cut.proofs.refusal.lent_number.Tie as tie

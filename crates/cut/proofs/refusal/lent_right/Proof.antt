@@ -1,4 +1,4 @@
--- `cut::refusal::lent_right` meets its contract.
+-- `cut::refusal::lent_right` meets its contract: the two tests are the definition's.
 -- Assumes nothing.
 use native.Mathlib.Nat.{mul-le-mul}
 use native.Mathlib.Omega.{arith}

@@ -1,4 +1,4 @@
--- `cut::rows::copy` meets its contract.
+-- `cut::rows::copy` meets its contract: the row is filled from the front with the column.
 -- Assumes nothing.
 use Prim.Native.Nat.{_-_}
 use mathlib.Core.Path.{refl}

@@ -8,7 +8,7 @@ use Rattle.lists.specs.Below.{below-take, below-drop}
 use Rattle.field.specs.Modulo.{mod257}
 use Rattle.field.specs.Laws.{mod257-field}
 use Rattle.cut.specs.Columns.{valuesFrom}
-use Rattle.cut.specs.ColumnLaws.{part-within, length-values, values-last, values-more, below-values}
+use Rattle.cut.specs.RowLaws.{part-within, length-values, values-last, values-more, below-values}
 use Rattle.cut.proofs.Laying.{part-is, length-part}
 use borrow.Author.Needs.{needs}
 use Rattle.cut.proofs.rows.share_row.Statement.{statement}

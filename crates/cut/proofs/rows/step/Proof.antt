@@ -1,4 +1,4 @@
--- `cut::rows::step` meets its contract.
+-- `cut::rows::step` meets its contract: the row is filled from the front with what one step makes of it.
 -- Assumes nothing.
 use Prim.Native.Nat.{ℕ, _+_, _*_, _-_, _%_, _≤_}
 use mathlib.Core.Path.{_≡_}

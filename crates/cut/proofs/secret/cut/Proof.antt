@@ -1,4 +1,4 @@
--- `cut::secret::cut` meets its contract.
+-- `cut::secret::cut` meets its contract: 0 says all that filling the tray wants, and any other number leaves it.
 -- Assumes nothing.
 use Prim.Native.Nat.{_+_, _*_, _≤_}
 use mathlib.Core.Path.{_≡_, sym, _∙_}

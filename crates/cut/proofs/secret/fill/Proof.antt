@@ -1,10 +1,10 @@
--- `cut::secret::fill` meets its contract.
+-- `cut::secret::fill` meets its contract: what is laid out is the cut's, and so are its letters.
 -- Assumes nothing.
 use native.Mathlib.Omega.{arith}
 use Rattle.lists.specs.Below.{Below}
 use Rattle.field.specs.Modulo.{mod257}
 use Rattle.cut.specs.CutLaws.{CutFacts, accepted-facts}
-use Rattle.cut.specs.Letters.{laid-lent, laid-cut}
+use Rattle.cut.specs.LetterLaws.{laid-lent, laid-cut}
 use borrow.Author.Needs.{needs}
 use Rattle.cut.proofs.secret.fill.Statement.{statement}
 use Rattle.cut.proofs.secret.fill.Tie as tie

@@ -1,4 +1,4 @@
--- `cut::rows::put_coefficients` meets its contract.
+-- `cut::columns::put_coefficients` meets its contract: the column is filled from the front with the random words of its power.
 -- Assumes nothing.
 use Prim.Native.Nat.{_+_, _*_, _-_, _<_}
 use mathlib.Core.Path.{refl}
@@ -7,8 +7,8 @@ use lib.ListN.{length, getD}
 use Rattle.cut.specs.ColumnLaws.{word-within}
 use Rattle.cut.proofs.Filling.{Filling, filling-none, filling-more, filling-done}
 use borrow.Author.Needs.{needs}
-use Rattle.cut.proofs.rows.put_coefficients.Statement.{statement}
-use Rattle.cut.proofs.rows.put_coefficients.Tie as tie
+use Rattle.cut.proofs.columns.put_coefficients.Statement.{statement}
+use Rattle.cut.proofs.columns.put_coefficients.Tie as tie
 
 abbrev Inv-loop : tie.InvT-loop
 Inv-loop random t j column₀ i₀ column i = Filling (λ k. getD random (k * t + j) 0) column₀ i column

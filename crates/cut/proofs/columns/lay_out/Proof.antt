@@ -1,4 +1,4 @@
--- `cut::rows::lay_out` meets its contract.
+-- `cut::columns::lay_out` meets its contract: before each turn the first j + 1 columns stand.
 -- Assumes nothing.
 use Prim.Native.Nat.{ℕ, _+_, _-_, _*_, _≤_}
 use mathlib.Core.Path.{_≡_, refl, sym, ap, _∙_}
@@ -9,11 +9,11 @@ use lib.ListN.{length, getD, take, drop}
 use lib.Seq.{length-take-le}
 use Rattle.lists.specs.Listed.{listed}
 use Rattle.cut.specs.Columns.{columnOf, columnsOf}
-use Rattle.cut.specs.ColumnLaws.{part-within}
+use Rattle.cut.specs.RowLaws.{part-within}
 use Rattle.cut.proofs.Laying.{length-part, Laying, laying-first, laying-more, laying-done}
 use borrow.Author.Needs.{needs}
-use Rattle.cut.proofs.rows.lay_out.Statement.{statement}
-use Rattle.cut.proofs.rows.lay_out.Tie as tie
+use Rattle.cut.proofs.columns.lay_out.Statement.{statement}
+use Rattle.cut.proofs.columns.lay_out.Tie as tie
 
 abbrev Inv-loop : tie.InvT-loop
 Inv-loop secret random t columns₀ l j₀ columns j = (j ≤ t) × Laying l (columnOf t secret random) (l * (t + 1)) (j + 1) columns

@@ -1,12 +1,12 @@
--- `cut::rows::put_constants` meets its contract.
+-- `cut::columns::put_constants` meets its contract: the column is filled from the front with the secret.
 -- Assumes nothing.
 use Prim.Native.Nat.{_-_}
 use native.Mathlib.Omega.{arith}
 use lib.ListN.{length, getD}
 use Rattle.cut.proofs.Filling.{Filling, filling-none, filling-more, filling-copied}
 use borrow.Author.Needs.{needs}
-use Rattle.cut.proofs.rows.put_constants.Statement.{statement}
-use Rattle.cut.proofs.rows.put_constants.Tie as tie
+use Rattle.cut.proofs.columns.put_constants.Statement.{statement}
+use Rattle.cut.proofs.columns.put_constants.Tie as tie
 
 abbrev Inv-loop : tie.InvT-loop
 Inv-loop secret column₀ i₀ column i = Filling (λ k. getD secret k 0) column₀ i column

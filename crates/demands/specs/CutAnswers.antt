@@ -1,0 +1,52 @@
+-- A cut of bytes answers 0 exactly where it is one cut with a tray to fill, and leaves that cut's tray.
+-- Assumes nothing.
+use Prim.Native.Nat.{ℕ, _*_}
+use mathlib.Core.Path.{_≡_, sym, _∙_}
+use mathlib.Core.List.{List}
+use native.Mathlib.Omega.{arith}
+use lib.ListN.{length}
+use Rattle.lists.specs.Below.{Below}
+use Rattle.field.specs.Modulo.{mod257}
+use Rattle.format.specs.declared.order.Order.{Order}
+use Rattle.format.specs.OrderLaws.{lawful-order-facts, facts-lawful-order}
+use Rattle.format.specs.Passing.{passed, passes}
+use Rattle.cut.specs.Cut.{cutNumber, cutTray, CutDone}
+use Rattle.cut.specs.CutLaws.{accepted-facts, facts-accepted}
+use Rattle.cut.specs.OneCut.{OneCut}
+
+-- what a cut leaves that answers 0
+cut-left : {order : Order} {stamp number : ℕ} {secret random tray left : List ℕ} → CutDone mod257 order stamp secret random tray number left
+    → cutNumber order stamp secret random tray ≡ 0 → left ≡ cutTray mod257 order stamp secret random
+cut-left D e = D .leaves ∙ rw e
+
+pub zero-one-cut : {order : Order} {stamp : ℕ} {secret random tray left : List ℕ} → CutDone mod257 order stamp secret random tray 0 left → Below 256 secret
+    → OneCut mod257 order stamp secret random × (left ≡ cutTray mod257 order stamp secret random)
+zero-one-cut {order} {stamp} {secret} {random} {tray} D bytes =
+    let h = accepted-facts order stamp secret random tray (sym (D .answers)) in (
+      record {
+        order-lawful = facts-lawful-order order (h .of-order);
+        stamp-lawful = simp (passes, h .stamp-least, h .stamp-most);
+        length-lawful = simp (passes, h .length-least, h .length-most);
+        constants-below = λ i k. omega (arith, bytes i k);
+        random-size = h .words-lent;
+        random-below = h .words-within;
+      },
+      cut-left D (sym (D .answers)),
+    )
+
+pub one-cut-zero : {order : Order} {stamp number : ℕ} {secret random tray left : List ℕ} → OneCut mod257 order stamp secret random → length tray ≡ 2048 * order .n
+    → CutDone mod257 order stamp secret random tray number left → (number ≡ 0) × (left ≡ cutTray mod257 order stamp secret random)
+one-cut-zero {order} {stamp} {secret = secret} {random} {tray} C s D =
+    let length-right = C .length-lawful in
+    let stamp-right = C .stamp-lawful in
+    let e = facts-accepted order stamp secret random tray (record {
+      of-order = lawful-order-facts order (C .order-lawful);
+      length-least = search passed;
+      length-most = search passed;
+      stamp-least = search passed;
+      stamp-most = search passed;
+      words-lent = C .random-size;
+      tray-lent = s;
+      words-within = C .random-below;
+    }) in
+    (D .answers ∙ e, cut-left D e)

@@ -1,0 +1,101 @@
+-- Demand 2: of a cut tray, with at most f of its usable slots altered, the join gives the secret or none.
+-- Assumes nothing.
+use Prim.Native.Nat.{ℕ, _+_, _≤_}
+use mathlib.Core.Path.{_≡_, _∙_}
+use mathlib.Core.Bool.{Bool}
+use mathlib.Core.List.{List}
+use mathlib.Core.Logic.{⊎-elim}
+use native.Mathlib.Omega.{arith}
+use lib.ListN.{length}
+use Rattle.lists.specs.Below.{Below}
+use Rattle.lists.specs.Count.{count, count-same}
+use Rattle.lists.specs.From.{from, from-in}
+use Rattle.lists.specs.KeeperSet.{keeperSet}
+use Rattle.lists.specs.KeeperSetLaws.{keeper-set-same}
+use Rattle.lists.specs.SameBytes.{sameBytes, same-bytes-equal, equal-same-bytes}
+use Rattle.lists.specs.SameTest.{same-test, same-and}
+use Rattle.algebra.specs.Field.{Ops}
+use Rattle.field.specs.Modulo.{mod257}
+use Rattle.block.specs.AtMostLaws.{below-at-most}
+use Rattle.format.specs.declared.order.Order.{Order}
+use Rattle.format.specs.OrderLaws.{KeeperFacts}
+use Rattle.tray.specs.Tray.{slotOf, usable, wordOf}
+use Rattle.agree.specs.Agreement.{matches, agreeing, needed}
+use Rattle.agree.specs.ReachesLaws.{agreeing-same}
+use Rattle.cut.specs.Cut.{cutTray}
+use Rattle.cut.specs.LetterField.{LetterField, keepers-apart, mod257-letters}
+use Rattle.cut.specs.OneCut.{OneCut, length-cut-tray}
+use Rattle.join.specs.declared.Joined.{Joined}
+use Rattle.join.specs.Join.{answer, JoinDone}
+use Rattle.demands.specs.Accepted.{Given, zero-agreed, agreed-given}
+use Rattle.demands.specs.Altered.{unaltered, usableMany, unalteredMany, EnoughLeft, AtMostAltered, count-usable}
+use Rattle.demands.specs.JoinAnswers.{cut-not-refused}
+use Rattle.demands.specs.CutPolynomials.{cutPolynomials, constants-cut, polynomials-cut, slot-matches, matches-slot}
+
+-- the join gives the secret back: number 0, m, need, the usable keepers whose letters are unaltered, and the secret in the room
+pub record GivesBack (order : Order) (stamp : ℕ) (secret cut tray : List ℕ) (result : Joined) (left : List ℕ) : Type 0 where
+  pub answers : result ≡ answer 0 (usableMany order stamp (length secret) tray) (needed (order .t) (order .f) (order .n) (usable order stamp (length secret) tray))
+      (keeperSet (unaltered order stamp (length secret) cut tray) (order .n))
+  pub leaves : left ≡ secret
+
+module _ {O : Ops} (F : LetterField O) {order : Order} {stamp : ℕ} {secret random tray : List ℕ} (C : OneCut O order stamp secret random)
+    (A : AtMostAltered order stamp (length secret) (cutTray O order stamp secret random) tray) where
+  abbrev cut : List ℕ
+  cut = cutTray O order stamp secret random
+
+  abbrev ps : List (List ℕ)
+  ps = cutPolynomials (order .t) secret random
+
+  abbrev agrees : ℕ → Bool
+  agrees = agreeing O (usable order stamp (length secret) tray) (wordOf tray (length secret)) (length secret) ps
+
+  -- who agrees with the cut is who is unaltered
+  agrees-unaltered : (x : ℕ) → KeeperFacts order x → agrees x ≡ unaltered order stamp (length secret) cut tray x
+  agrees-unaltered x k =
+      same-and (usable order stamp (length secret) tray x) (matches O ps (length secret) (wordOf tray (length secret)) x) (sameBytes (slotOf tray x) (slotOf cut x))
+      (λ u. same-test (matches O ps (length secret) (wordOf tray (length secret)) x) (sameBytes (slotOf tray x) (slotOf cut x))
+      (λ e. equal-same-bytes (slotOf tray x) (slotOf cut x) (matches-slot F C tray x k (A .bytes) u e))
+      (λ e. slot-matches F C tray x k (same-bytes-equal (slotOf tray x) (slotOf cut x) e)))
+
+  count-agrees : count agrees (from 1 (order .n)) ≡ unalteredMany order stamp (length secret) cut tray
+  count-agrees =
+      count-same agrees (unaltered order stamp (length secret) cut tray) (from 1 (order .n))
+      (λ x i. let h = from-in 1 (order .n) x i in agrees-unaltered x (omega arith))
+
+  all-but-f : usableMany order stamp (length secret) tray ≤ count agrees (from 1 (order .n)) + order .f
+  all-but-f = omega (arith, count-usable order stamp (length secret) cut tray (from 1 (order .n)), A .few, count-agrees)
+
+  module _ {room left : List ℕ} {result : Joined} (D : JoinDone O order stamp (length secret) tray room result left) where
+    given-back : Given O order stamp (length secret) tray ps result left → GivesBack order stamp secret cut tray result left
+    given-back g = record {
+      answers = g .answers ∙ rw (keeper-set-same agrees (unaltered order stamp (length secret) cut tray) (order .n) (λ x least most. agrees-unaltered x (omega arith)));
+      leaves = g .leaves ∙ constants-cut (order .t) secret random;
+    }
+
+    -- "The join never gives a wrong secret."
+    pub never-wrong : result .number ≡ 0 → GivesBack order stamp secret cut tray result left
+    never-wrong z =
+        let (qs, a, g) = zero-agreed D z in
+        let e = agreeing-same (F .laws) (order .t) (order .n) (keepers-apart F order (C .order-lawful)) (usable order stamp (length secret) tray)
+        (wordOf tray (length secret)) (length secret) qs ps (a .reaches .polynomials) (polynomials-cut F C) (omega (arith, a .reaches .enough, all-but-f)) in
+        given-back (rw e at g)
+
+    -- "It gives the right one if m is at least t+2f+1, and also for smaller m if at least t+f+1 usable letters are unaltered."
+    pub gives-right : Below 256 secret → length room ≡ length secret → EnoughLeft order stamp (length secret) cut tray
+        → GivesBack order stamp secret cut tray result left
+    gives-right bytes s many = given-back (agreed-given F D (cut-not-refused C tray room (A .size ∙ length-cut-tray F C) s) ps (record {
+      reaches = record {
+        polynomials = polynomials-cut F C;
+        enough = ⊎-elim (λ h. omega (arith, all-but-f)) (λ h. omega (arith, all-but-f, count-agrees)) many;
+      };
+      bytes = rw (constants-cut (order .t) secret random) (below-at-most 255 secret bytes);
+    }))
+
+-- The page's case, "modulo the prime 257".
+pub demand-2 : {order : Order} {stamp : ℕ} {secret random tray room left : List ℕ} {result : Joined} → OneCut mod257 order stamp secret random → Below 256 secret
+    → AtMostAltered order stamp (length secret) (cutTray mod257 order stamp secret random) tray → length room ≡ length secret
+    → JoinDone mod257 order stamp (length secret) tray room result left
+    → (result .number ≡ 0 → GivesBack order stamp secret (cutTray mod257 order stamp secret random) tray result left)
+    × (EnoughLeft order stamp (length secret) (cutTray mod257 order stamp secret random) tray
+    → GivesBack order stamp secret (cutTray mod257 order stamp secret random) tray result left)
+demand-2 C bytes A s D = (never-wrong mod257-letters C A D, gives-right mod257-letters C A D bytes s)

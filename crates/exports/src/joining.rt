@@ -1,0 +1,36 @@
+// cs_join: the secret of a tray, or why not.
+ghost use Rattle.field.specs.Modulo.{mod257};
+ghost use Rattle.exports.specs.Told.{orderTold};
+ghost use Rattle.exports.specs.Join.{JoinAnswered};
+use crate::told::order_told;
+use join::join;
+
+#[repr(C)]
+pub struct JoinResult {
+    pub number: u32,
+    pub usable: u32,
+    pub need: u32,
+    pub set: u32,
+}
+
+#[no_mangle]
+pub extern "C" fn cs_join(
+    t: u32,
+    f: u32,
+    n: u32,
+    stamp: u32,
+    length: u32,
+    tray: &[u8],
+    room: &mut [u8],
+) -> JoinResult
+    ensures { λ r. ⌜ JoinAnswered mod257 (orderTold t f n) stamp length (now (tray .entry)) (now (room .entry)) r (now (room .exit)) ⌝ }
+{
+    let l = length as usize;
+    let joined = join(order_told(t, f, n), stamp, l, tray, room);
+    JoinResult {
+        number: joined.number,
+        usable: joined.usable,
+        need: joined.need,
+        set: joined.set as u32,
+    }
+}

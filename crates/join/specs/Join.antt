@@ -1,0 +1,54 @@
+-- What the join answers, and what it leaves in the room lent.
+-- Assumes nothing.
+use Prim.Native.Nat.{ℕ, _+_, _*_, _≤_, _<_}
+use mathlib.Core.Path.{_≡_}
+use mathlib.Core.Bool.{Bool, true, false, cond, _&&_}
+use mathlib.Core.List.{List}
+use lib.Dec.{eqb}
+use lib.ListN.{length}
+use Rattle.lists.specs.Count.{count}
+use Rattle.lists.specs.From.{from}
+use Rattle.lists.specs.KeeperSet.{keeperSet}
+use Rattle.algebra.specs.Field.{Ops}
+use Rattle.block.specs.Check.{allAtMost}
+use Rattle.format.specs.declared.order.Order.{Order}
+use Rattle.format.specs.Order.{lawfulOrder}
+use Rattle.format.specs.Head.{lawfulLength, lawfulStamp}
+use Rattle.tray.specs.Tray.{usable, wordOf}
+use Rattle.agree.specs.Agreement.{agreeing, needed, Reaches, constants}
+use Rattle.join.specs.declared.Joined.{Joined}
+
+-- the refusals that need no letter: 1, 2, 3, 4
+unfoldable pub joinRefusal : Order → ℕ → ℕ → List ℕ → List ℕ → ℕ
+joinRefusal order stamp l tray room =
+    cond (lawfulOrder order)
+    (cond (lawfulLength l)
+    (cond (lawfulStamp stamp)
+    (cond (eqb (length tray) (2048 * order .n) && eqb (length room) l) 0 4)
+    3)
+    2)
+    1
+
+-- "The result has the number, m, need, and the keepers that match as a 16-bit set"
+abbrev pub answer : ℕ → ℕ → ℕ → ℕ → Joined
+answer number m need set = record { number = number; usable = m; need = need; set = set }
+
+-- Of the usable letters: too few; enough, but no polynomials reach need; polynomials that do, with a constant that is no byte; or with bytes
+-- alone, and these are the secret. "Only 0 writes the secret."
+pub data Outcome (O : Ops) (t f n : ℕ) (us : ℕ → Bool) (word : ℕ → ℕ → ℕ) (l : ℕ) (room : List ℕ) : Joined → List ℕ → Type 0 where
+  few : count us (from 1 n) < t + f + 1
+      → Outcome O t f n us word l room (answer 6 (count us (from 1 n)) (needed t f n us) 0) room
+  apart : t + f + 1 ≤ count us (from 1 n) → ((ps : List (List ℕ)) → Reaches O t f n us word l ps → ⊥)
+      → Outcome O t f n us word l room (answer 7 (count us (from 1 n)) (needed t f n us) 0) room
+  wide : (ps : List (List ℕ)) → Reaches O t f n us word l ps → allAtMost 255 (constants ps) ≡ false
+      → Outcome O t f n us word l room (answer 8 (count us (from 1 n)) (needed t f n us) (keeperSet (agreeing O us word l ps) n)) room
+  joined : (ps : List (List ℕ)) → Reaches O t f n us word l ps → allAtMost 255 (constants ps) ≡ true
+      → Outcome O t f n us word l room (answer 0 (count us (from 1 n)) (needed t f n us) (keeperSet (agreeing O us word l ps) n)) (constants ps)
+
+-- the join's promise: a refusal, or the outcome of the usable letters
+pub data JoinDone (O : Ops) (order : Order) (stamp l : ℕ) (tray room : List ℕ) : Joined → List ℕ → Type 0 where
+  refused : (joinRefusal order stamp l tray room ≡ 0 → ⊥)
+      → JoinDone O order stamp l tray room (answer (joinRefusal order stamp l tray room) 0 0 0) room
+  judged : {result : Joined} {left : List ℕ} → joinRefusal order stamp l tray room ≡ 0
+      → Outcome O (order .t) (order .f) (order .n) (usable order stamp l tray) (wordOf tray l) l room result left
+      → JoinDone O order stamp l tray room result left

@@ -1,0 +1,38 @@
+-- An outcome, from the numbers and the set that were found.
+-- Assumes nothing.
+use Prim.Native.Nat.{ℕ, _+_, _≤_, _<_}
+use mathlib.Core.Path.{_≡_, refl, ap, _∙_}
+use mathlib.Core.Bool.{Bool, true, false, cond}
+use mathlib.Core.List.{List}
+use native.Mathlib.Omega.{arith}
+use Rattle.lists.specs.Count.{count}
+use Rattle.lists.specs.From.{from}
+use Rattle.lists.specs.KeeperSet.{keeperSet}
+use Rattle.algebra.specs.Agreement.{need}
+use Rattle.algebra.specs.Field.{Ops}
+use Rattle.block.specs.Check.{allAtMost}
+use Rattle.agree.specs.Agreement.{agreeing, needed, Reaches, constants}
+use Rattle.agree.specs.Kept.{Agreed}
+use Rattle.join.specs.Join.{answer, Outcome, few, apart, wide, joined}
+use Rattle.join.specs.Revealed.{Revealed}
+
+least-needed : (t f n : ℕ) (us : ℕ → Bool) {m least : ℕ} → m ≡ count us (from 1 n) → least ≡ need m t f → least ≡ needed t f n us
+least-needed t f n us many enough = enough ∙ ap (λ (k : ℕ). need k t f) many
+
+module _ {O : Ops} {t f n : ℕ} {us : ℕ → Bool} {word : ℕ → ℕ → ℕ} {l : ℕ} {room : List ℕ} where
+  reaching : (ps : List (List ℕ)) → Reaches O t f n us word l ps → (bytes : Bool) → allAtMost 255 (constants ps) ≡ bytes
+      → Outcome O t f n us word l room (answer (cond bytes 0 8) (count us (from 1 n)) (needed t f n us) (keeperSet (agreeing O us word l ps) n)) (cond bytes (constants ps) room)
+  reaching ps R true e = joined ps R e
+  reaching ps R false e = wide ps R e
+
+  module _ {m least : ℕ} (many : m ≡ count us (from 1 n)) (enough : least ≡ need m t f) where
+    pub few-judged : m < t + f + 1 → Outcome O t f n us word l room (answer 6 m least 0) room
+    few-judged h = rw (least-needed t f n us many enough, many) (few (omega arith))
+
+    pub apart-judged : t + f + 1 ≤ m → ((ps : List (List ℕ)) → Reaches O t f n us word l ps → ⊥) → Outcome O t f n us word l room (answer 7 m least 0) room
+    apart-judged h none = rw (least-needed t f n us many enough, many) (apart (omega arith) none)
+
+    pub agreed-judged : {set number : ℕ} {left : List ℕ} (a : Agreed O t f n us word l set) → Revealed (constants (a .polynomials)) room number left
+        → Outcome O t f n us word l room (answer number m least set) left
+    agreed-judged a o =
+        rw (least-needed t f n us many enough, many, a .agree, o .answers, o .leaves) (reaching (a .polynomials) (a .reaches) (allAtMost 255 (constants (a .polynomials))) refl)

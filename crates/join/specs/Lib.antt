@@ -1,0 +1,6 @@
+pub mod Join
+pub mod Judged
+pub mod OutcomeLaws
+pub mod RefusalLaws
+pub mod Revealed
+pub mod Scanned

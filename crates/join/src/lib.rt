@@ -1,0 +1,70 @@
+// The join: the secret, or why not.
+ghost use mathlib.Core.Path.{_≡_};
+ghost use Prim.Native.Nat.{_≤_};
+ghost use lib.ListN.{length};
+ghost use Rattle.lists.specs.KeeperSet.{member};
+ghost use Rattle.field.specs.Modulo.{mod257};
+ghost use Rattle.weigh.specs.Weigh.{rowWord};
+ghost use Rattle.agree.specs.Rows.{Rows};
+ghost use Rattle.join.specs.Join.{answer, Outcome, JoinDone};
+use crate::refusal::refusal;
+use crate::secret::reveal;
+use agree::agreement::agreement;
+use agree::agreement::need_of;
+use format::order::Order;
+use tray::scan;
+
+pub mod bytes;
+pub mod refusal;
+pub mod secret;
+
+// "The result has the number, m, need, and the keepers that match as a 16-bit set."
+pub struct Joined {
+    pub number: u32,
+    pub usable: u32,
+    pub need: u32,
+    pub set: u16,
+}
+
+fn answer(number: u32, m: u32, need: u32, set: u16) -> Joined
+    ensures { λ r. ⌜ r ≡ answer number m need set ⌝ }
+{
+    Joined {
+        number,
+        usable: m,
+        need,
+        set,
+    }
+}
+
+// The outcome of the usable letters, whose words stand in the rows.
+fn judge(t: usize, f: usize, usable: u16, rows: &[u16], room: &mut [u8]) -> Joined
+    requires { ⌜ Rows (now rows) ⌝ ∗ ⌜ t ≤ 7 ⌝ ∗ ⌜ f ≤ t ⌝ ∗ ⌜ length (now room) ≤ 952 ⌝ }
+    ensures { λ r. ⌜ Outcome mod257 t f 16 (member usable) (rowWord (now (rows .entry))) (length (now (room .entry))) (now (room .entry)) r (now (room .exit)) ⌝ }
+{
+    let m = u16::count_ones(usable);
+    let need = need_of(m, t, f);
+    if (m as usize) < t + f + 1 {
+        return answer(6, m, need, 0);
+    }
+    let l = room.len();
+    let set = agreement(t, f, usable, rows, l);
+    if set == 0 {
+        return answer(7, m, need, 0);
+    }
+    let mut row = [0u16; 952];
+    let number = reveal(t, set, rows, &mut row[..l], room);
+    answer(number, m, need, set)
+}
+
+pub fn join(o: Order, stamp: u32, l: usize, tray: &[u8], room: &mut [u8]) -> Joined
+    ensures { λ r. ⌜ JoinDone mod257 o stamp l (now (tray .entry)) (now (room .entry)) r (now (room .exit)) ⌝ }
+{
+    let number = refusal(o, stamp, l, tray, room);
+    if number != 0 {
+        return answer(number, 0, 0, 0);
+    }
+    let mut rows = [0u16; 15232];
+    let usable = scan(o, stamp, l, tray, &mut rows);
+    judge(o.t, o.f, usable, &rows, room)
+}
