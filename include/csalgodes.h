@@ -78,6 +78,26 @@ uint32_t cs_cut(uint32_t t, uint32_t f, uint32_t n, uint32_t stamp,
                 const uint16_t *random, size_t random_count,
                 uint8_t *tray, size_t tray_length);
 
+/* What a join found. */
+typedef struct {
+    uint32_t number; /* 0, 1, 2, 3, 4, 6, 7 or 8 */
+    uint32_t usable; /* of 0, 6, 7, 8: m, the letters that can be used; else 0 */
+    uint32_t need;   /* of 0, 6, 7, 8: how many of them must match, the larger of m-f and t+f+1; else 0 */
+    uint32_t set;    /* of 0 and 8: the keepers that match, keeper x being bit x-1; else 0 */
+} cs_join_result;
+
+/*
+ * Joins the letters of a tray that read as good and have this order, stamp and length and their own
+ * slot's keeper number. If the tray was cut, at most f usable letters differ from the cut and any
+ * others are made unusable, the answer is never a wrong secret.
+ *
+ * Lent: the tray, n*2048 bytes, read only; room for exactly length bytes, to which the secret is
+ * written where the answer is 0.
+ */
+cs_join_result cs_join(uint32_t t, uint32_t f, uint32_t n, uint32_t stamp, uint32_t length,
+                       const uint8_t *tray, size_t tray_length,
+                       uint8_t *room, size_t room_length);
+
 #ifdef __cplusplus
 }
 #endif

@@ -60,6 +60,16 @@ static void answer_read(const uint8_t *slot, size_t size) {
     result[7] = r.length;
 }
 
+static void answer_join(const uint32_t *number, const uint8_t *tray, size_t size, uint8_t *room,
+                        size_t room_size) {
+    cs_join_result r = cs_join(number[0], number[1], number[2], number[3], number[4], tray, size,
+                               room, room_size);
+    result[0] = r.number;
+    result[1] = r.usable;
+    result[2] = r.need;
+    result[3] = r.set;
+}
+
 /* Whether there is such a call. */
 static int answer(void) {
     uint8_t *first = memory[0] + GUARD, *second = memory[1] + GUARD, *third = memory[2] + GUARD;
@@ -70,6 +80,7 @@ static int answer(void) {
         result[0] = cs_cut(number[0], number[1], number[2], number[3], first, size[0],
                            (const uint16_t *)second, size[1] / 2, third, size[2]);
         return 1;
+    case 2: answer_join(number, first, size[0], second, size[1]); return 1;
     default: return 0;
     }
 }

@@ -10,6 +10,7 @@
 use std::io::{BufReader, Read, Write};
 use std::process::{Child, ChildStdin, ChildStdout, Command, Stdio};
 
+use crate::join::Joined;
 use crate::order::Order;
 
 const NUMBERS: usize = 5;
@@ -106,6 +107,22 @@ impl Peer {
         assert!(left[0] == secret && left[1] == random, "both are only lent to be read");
         tray.copy_from_slice(&left[2]);
         numbers[0]
+    }
+
+    pub fn join(
+        &mut self,
+        order: Order,
+        stamp: u32,
+        length: u32,
+        tray: &[u8],
+        room: &mut [u8],
+    ) -> Joined {
+        let numbers = [order.t, order.f, order.n, stamp, length];
+        let Reply { numbers, left } = self.call(2, &numbers, &[tray, room]);
+        assert!(left[0] == tray, "the tray is only lent to be read");
+        room.copy_from_slice(&left[1]);
+        let [number, usable, need, set, ..] = numbers;
+        Joined { number, usable, need, set }
     }
 }
 
