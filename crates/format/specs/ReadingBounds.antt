@@ -1,13 +1,13 @@
--- What holds of every reading: a good head is lawful, and a fault's place is small.
+-- What holds of every reading: a good head is lawful, a fault's number is not 0, and its place is small.
 -- Assumes nothing.
-use Prim.Native.Nat.{ℕ, zero, suc, _+_, _-_, _*_, _≤_, _<_, zero-le, max}
+use Prim.Native.Nat.{ℕ, zero, suc, _+_, _-_, _≤_, _<_, max}
 use mathlib.Core.Path.{_≡_, refl}
 use mathlib.Core.Bool.{Bool, true, false, cond}
 use mathlib.Core.List.{List}
-use native.Mathlib.Nat.{le-trans}
 use native.Mathlib.Omega.{arith}
 use lib.Dec.{eqb}
 use lib.ListN.{length}
+use borrow.Author.Tests.{eqb-false}
 use Rattle.format.specs.declared.head.Head.{Head}
 use Rattle.format.specs.declared.reader.Reading.{Reading}
 use Rattle.format.specs.declared.reader.Reading.the-variants.{Good, Bad}
@@ -23,24 +23,38 @@ good-lawful slot h e =
     let g = good-slot slot h e in
     block-read h 0 (blockWords slot 0) (length-block-words slot (g .size) 0 (omega arith)) (g .faultless 0 (omega arith)) .lawful
 
--- of two readings, the place of the one that is taken
-taken-place : (test : Bool) (one two : Reading) (most : ℕ) → placeOf one ≤ most → placeOf two ≤ most → placeOf (cond test one two) ≤ most
-taken-place true one two most a b = a
-taken-place false one two most a b = b
+pub record FaultFacts (number place : ℕ) : Type 0 where
+  pub numbered : number ≡ 0 → ⊥
+  pub near : place < 512
 
-fault-place : (number : ℕ → ℕ) (otherwise : Reading) (k p : ℕ) → placeOf otherwise ≤ p → placeOf (firstFault number p k otherwise) ≤ p + k
+-- a reading that is bad has these facts
+abbrev pub FaultsIn : Reading → Type 0
+FaultsIn (Good h) = Unit {0}
+FaultsIn (Bad number place) = FaultFacts number place
+
+taken : (test : Bool) (one two : Reading) → FaultsIn one → (test ≡ false → FaultsIn two) → FaultsIn (cond test one two)
+taken true one two a b = a
+taken false one two a b = b refl
+
+first-facts : (number : ℕ → ℕ) (otherwise : Reading) (k p : ℕ) → p + k ≤ 512 → FaultsIn otherwise → FaultsIn (firstFault number p k otherwise)
 unfolding firstFault
-fault-place number otherwise zero p h = omega arith
-fault-place number otherwise (suc k) p h =
-    taken-place (eqb (number p) 0) (firstFault number (suc p) k otherwise) (Bad (number p) p) (p + suc k)
-    (omega (arith, fault-place number otherwise k (suc p) (omega arith))) (omega arith)
+first-facts number otherwise zero p room h = h
+first-facts number otherwise (suc k) p room h =
+    taken (eqb (number p) 0) (firstFault number (suc p) k otherwise) (Bad (number p) p) (first-facts number otherwise k (suc p) (omega arith) h)
+    (λ e. record { numbered = eqb-false (number p) 0 e; near = omega arith })
+
+pub fault-facts : (slot : List ℕ) → FaultsIn (readOf slot)
+unfolding readOf judgedFrom ending headOf blocksFor
+fault-facts slot =
+    let h = headOf (blockWords slot 0) in
+    let ends = taken (endsInZeros slot (h .length)) (Good h) (Bad 13 0) tt (λ _. record { numbered = λ e. omega arith; near = omega arith }) in
+    let number : ℕ → ℕ = λ place. letterBlockNumber h place (blockWords slot place) in
+    let judged = first-facts number (ending slot h) (max 1 (blocksFor (h .length)) - 0) 0 (omega arith) ends in
+    taken (eqb (length slot) 2048) (judgedFrom slot h 0) (Bad 4 0) judged (λ _. record { numbered = λ e. omega arith; near = omega arith })
+
+place-near : (reading : Reading) → FaultsIn reading → placeOf reading < 512
+place-near (Good h) facts = omega arith
+place-near (Bad number place) facts = facts .near
 
 pub small-place : (slot : List ℕ) → placeOf (readOf slot) < 512
-unfolding readOf judgedFrom ending headOf blocksFor
-small-place slot =
-    let h = headOf (blockWords slot 0) in
-    let k = max 1 (blocksFor (h .length)) - 0 in
-    let ends = taken-place (endsInZeros slot (h .length)) (Good h) (Bad 13 0) 0 (omega arith) (omega arith) in
-    let number : ℕ → ℕ = λ place. letterBlockNumber h place (blockWords slot place) in
-    let judged = fault-place number (ending slot h) k 0 ends in
-    omega (arith, taken-place (eqb (length slot) 2048) (judgedFrom slot h 0) (Bad 4 0) (0 + k) judged (omega arith))
+small-place slot = place-near (readOf slot) (fault-facts slot)

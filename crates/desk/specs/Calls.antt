@@ -1,0 +1,96 @@
+-- "From an empty slot, with no damage between calls and every call told the same order and keeper, the desk holds the first good
+-- letter for it with the greatest stamp offered."
+-- Assumes nothing.
+use Prim.Native.Nat.{ℕ, _<_, _≤_}
+use mathlib.Core.Path.{_≡_, refl, ap, subst, _∙_}
+use mathlib.Core.Bool.{Bool, true, false, cond}
+use mathlib.Core.List.{List, [], _∷_, _++_}
+use mathlib.Core.Logic.{_⊎_, inl, inr, ⊎-elim}
+use native.Mathlib.Omega.{arith}
+use lib.Dec.{ltb}
+use lib.ListN.{length}
+use borrow.Author.Tests.{ltb-true, ltb-false}
+use Rattle.format.specs.declared.order.Order.{Order}
+use Rattle.desk.specs.Desk.{stampHeld, deskRight, storeLeaves}
+use Rattle.desk.specs.GoodHere.{GoodHere, good-stamp, stamp-good}
+use Rattle.desk.specs.StoreLaws.{leaves-size, leaves-newer}
+
+-- what is held after slots have been offered, one after the other: each call leaves what `StoreDone` says
+unfoldable pub deskAfter : Order → ℕ → List ℕ → List (List ℕ) → List ℕ
+deskAfter order keeper held [] = held
+deskAfter order keeper held (offer ∷ offers) = deskAfter order keeper (storeLeaves order keeper held offer) offers
+
+abbrev pub Each : (List ℕ → Type 0) → List (List ℕ) → Type 0
+Each P [] = Unit {0}
+Each P (slot ∷ slots) = P slot × Each P slots
+
+each-so : (P Q : List ℕ → Type 0) → ((slot : List ℕ) → P slot → Q slot) → (slots : List (List ℕ)) → Each P slots → Each Q slots
+each-so P Q so [] each = tt
+each-so P Q so (slot ∷ slots) each = (so slot (each .0), each-so P Q so slots (each .1))
+
+-- "the first good letter for it with the greatest stamp offered"; what is not good counts as stamp 0, less than any letter's
+pub record FirstGreatest (order : Order) (keeper : ℕ) (offers : List (List ℕ)) (letter : List ℕ) : Type 0 where
+  pub earlier : List (List ℕ)
+  pub later : List (List ℕ)
+  pub among : offers ≡ earlier ++ (letter ∷ later)
+  pub good : GoodHere order keeper letter
+  pub greater : Each (λ offer. stampHeld order keeper offer < stampHeld order keeper letter) earlier
+  pub greatest : Each (λ offer. stampHeld order keeper offer ≤ stampHeld order keeper letter) later
+
+-- where no offer is good, the slot is as it was
+abbrev pub Holds : Order → ℕ → List ℕ → List (List ℕ) → List ℕ → Type 0
+Holds order keeper empty offers left =
+    (Each (λ offer. GoodHere order keeper offer → ⊥) offers × (left ≡ empty)) ⊎ FirstGreatest order keeper offers left
+
+module _ (order : Order) (keeper : ℕ) where
+  abbrev stamp : List ℕ → ℕ
+  stamp = stampHeld order keeper
+
+  -- from any slot: it is held still, and nothing newer was offered; or the first of the greatest stamp is held, which is newer
+  abbrev After : List ℕ → List (List ℕ) → List ℕ → Type 0
+  After held offers left =
+      (Each (λ offer. stamp offer ≤ stamp held) offers × (left ≡ held)) ⊎ (FirstGreatest order keeper offers left × (stamp held < stamp left))
+
+  -- what is first among the later offers is first where one of a smaller stamp comes before them
+  found-later : (offer : List ℕ) (offers : List (List ℕ)) (left : List ℕ) → stamp offer < stamp left
+      → FirstGreatest order keeper offers left → FirstGreatest order keeper (offer ∷ offers) left
+  found-later offer offers left less found =
+      record {
+        earlier = offer ∷ found .earlier;
+        later = found .later;
+        among = ap (λ (slots : List (List ℕ)). offer ∷ slots) (found .among);
+        good = found .good;
+        greater = (less, found .greater);
+        greatest = found .greatest;
+      }
+
+  one-more : (held offer : List ℕ) (offers : List (List ℕ)) (left : List ℕ) (newer : Bool) → ltb (stamp held) (stamp offer) ≡ newer
+      → After (cond newer offer held) offers left → After held (offer ∷ offers) left
+  one-more held offer offers left true e (inl kept) =
+      let less = ltb-true (stamp held) (stamp offer) e in
+      let first : FirstGreatest order keeper (offer ∷ offers) offer =
+      record { earlier = []; later = offers; among = refl; good = stamp-good order keeper offer (omega arith); greater = tt; greatest = kept .0 } in
+      rw (kept .1) (inr (first, less))
+  one-more held offer offers left true e (inr found) =
+      let less = ltb-true (stamp held) (stamp offer) e in
+      inr (found-later offer offers left (found .1) (found .0), omega arith)
+  one-more held offer offers left false e (inl kept) = inl ((ltb-false (stamp held) (stamp offer) e, kept .0), kept .1)
+  one-more held offer offers left false e (inr found) =
+      let most = ltb-false (stamp held) (stamp offer) e in
+      inr (found-later offer offers left (omega arith) (found .0), found .1)
+
+  module _ (right : deskRight order keeper ≡ true) where
+    after : (offers : List (List ℕ)) (held : List ℕ) → length held ≡ 2048 → After held offers (deskAfter order keeper held offers)
+    unfolding deskAfter
+    after [] held size = inl (tt, refl)
+    after (offer ∷ offers) held size =
+        let next = storeLeaves order keeper held offer in
+        one-more held offer offers (deskAfter order keeper next offers) (ltb (stamp held) (stamp offer)) refl
+        (subst (λ (slot : List ℕ). After slot offers (deskAfter order keeper next offers)) (leaves-newer order keeper held offer right size)
+        (after offers next (leaves-size order keeper held offer ∙ size)))
+
+    pub desk-holds : (empty : List ℕ) → length empty ≡ 2048 → stampHeld order keeper empty ≡ 0 → (offers : List (List ℕ))
+        → Holds order keeper empty offers (deskAfter order keeper empty offers)
+    desk-holds empty size none offers =
+        let not-good : (offer : List ℕ) → stamp offer ≤ stamp empty → GoodHere order keeper offer → ⊥ = λ offer most good. omega (arith, good-stamp order keeper offer good) in
+        ⊎-elim (λ kept. inl (each-so _ _ not-good offers (kept .0), kept .1)) (λ found. inr (found .0)) (after offers empty size)

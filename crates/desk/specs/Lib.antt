@@ -1,0 +1,5 @@
+pub mod Desk
+pub mod StoreLaws
+pub mod GoodHere
+pub mod Calls
+pub mod Same

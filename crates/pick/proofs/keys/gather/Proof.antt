@@ -1,0 +1,72 @@
+-- `keys::gather` meets its contract: the keys are listed from the front.
+-- Assumes nothing.
+use Prim.Native.Nat.{_-_}
+use native.Mathlib.Omega.{arith}
+use borrow.Author.Needs.{needs}
+use Rattle.pick.proofs.Gathering.{GatheredTo, gathered-none, gathered-next, gathered-all}
+use Rattle.pick.proofs.keys.gather.Statement.{statement}
+use Rattle.pick.proofs.keys.gather.Tie as tie
+
+abbrev Inv-loop : tie.InvT-loop
+Inv-loop o tray keys₀ n k₀ keys k = GatheredTo o tray keys₀ keys k
+
+abbrev μ-loop : tie.MeasureT-loop
+μ-loop o tray keys₀ n k₀ keys k = n - k
+
+loop-holds : tie.Need-loop-holds Inv-loop μ-loop
+loop-holds c = gathered-none
+
+add-slot-of : tie.Need-add-slot-of Inv-loop μ-loop
+add-slot-of c = search needs
+
+slot-of-requires : tie.Need-slot-of-requires Inv-loop μ-loop
+slot-of-requires c κs = search needs
+
+add-key-in : tie.Need-add-key-in Inv-loop μ-loop
+add-key-in c = search needs
+
+key-in-requires : tie.Need-key-in-requires Inv-loop μ-loop
+key-in-requires c κs = search needs
+
+mul-keys : tie.Need-mul-keys Inv-loop μ-loop
+mul-keys c = omega arith
+
+slice-write-keys : tie.Need-slice-write-keys Inv-loop μ-loop
+slice-write-keys c = omega arith
+
+add-k : tie.Need-add-k Inv-loop μ-loop
+add-k c = search needs
+
+loop-less : tie.Need-loop-less Inv-loop μ-loop
+loop-less c = search needs
+
+loop-again : tie.Need-loop-again Inv-loop μ-loop
+loop-again c =
+    let slot = c .before in
+    let turn = slot .before in
+    gathered-next (turn .before .loop .inv) (turn .loop-test .taken) (turn .before .before .before .before .pre .2) (slot .slot-of .ensures) (c .key-in .ensures)
+
+same-length : tie.Need-same-length Inv-loop μ-loop
+same-length c = c .before .loop .inv .size
+
+returns : tie.Need-returns Inv-loop μ-loop
+returns c = gathered-all (c .before .loop .inv) (c .loop-test .left)
+
+pub gather-spec : {M : Type 1} → statement M
+gather-spec =
+    tie.close
+    (tie.spec
+    Inv-loop
+    μ-loop
+    loop-holds
+    add-slot-of
+    slot-of-requires
+    add-key-in
+    key-in-requires
+    mul-keys
+    slice-write-keys
+    add-k
+    loop-less
+    loop-again
+    same-length
+    returns)

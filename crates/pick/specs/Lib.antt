@@ -1,0 +1,4 @@
+pub mod Keys
+pub mod Pick
+pub mod RefusalLaws
+pub mod Same
