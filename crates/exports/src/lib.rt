@@ -1,5 +1,7 @@
 // The public calls for C, Rust and Python: plain numbers and slices.
 pub mod cutting;
 pub mod joining;
+pub mod keeping;
+pub mod picking;
 pub mod reading;
 mod told;

@@ -1,0 +1,39 @@
+// cs_store and cs_fetch: the keeper's desk.
+ghost use mathlib.Core.Path.{_≡_};
+ghost use Rattle.desk.specs.Desk.{fetchNumber};
+ghost use Rattle.exports.specs.Told.{orderTold};
+ghost use Rattle.exports.specs.Store.{StoreAnswered};
+use crate::told::order_told;
+use desk::fetch_number;
+use desk::store;
+
+#[repr(C)]
+pub struct StoreResult {
+    pub number: u32,
+    pub place: u32,
+}
+
+#[no_mangle]
+pub extern "C" fn cs_store(
+    t: u32,
+    f: u32,
+    n: u32,
+    keeper: u32,
+    held: &mut [u8],
+    letter: &[u8],
+) -> StoreResult
+    ensures { λ r. ⌜ StoreAnswered (orderTold t f n) keeper (now (held .entry)) (now (letter .entry)) r (now (held .exit)) ⌝ }
+{
+    let stored = store(order_told(t, f, n), keeper as usize, held, letter);
+    StoreResult {
+        number: stored.number,
+        place: stored.place as u32,
+    }
+}
+
+#[no_mangle]
+pub extern "C" fn cs_fetch(t: u32, f: u32, n: u32, keeper: u32, held: &[u8]) -> u32
+    ensures { λ r. ⌜ r ≡ fetchNumber (orderTold t f n) keeper (now (held .entry)) ⌝ }
+{
+    fetch_number(order_told(t, f, n), keeper as usize, held)
+}
