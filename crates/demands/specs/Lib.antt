@@ -16,3 +16,4 @@ pub mod CutPolynomials
 pub mod HeldTray
 pub mod JoinAnswers
 pub mod SameShares
+pub mod ReportSame

@@ -1,0 +1,6 @@
+pub mod DecimalLaws
+pub mod LineLaws
+pub mod Lines
+pub mod Sample
+pub mod Text
+pub mod Written

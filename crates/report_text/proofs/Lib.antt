@@ -1,0 +1,4 @@
+pub mod JoinedLines
+pub mod KeeperLines
+pub mod Reporting
+pub mod Room

@@ -1,0 +1,50 @@
+-- `joined::report_joined` meets its contract: the join is done in a room of zeros, and its lines are written by the set of the usable keepers.
+-- Assumes nothing.
+use native.Mathlib.Omega.{arith}
+use borrow.Author.Needs.{needs}
+use Rattle.report_text.specs.Sets.{lines-of-set}
+use Rattle.report_text.proofs.Room.{take-zeros, length-front}
+use Rattle.report_text.proofs.joined.report_joined.Statement.{statement}
+use Rattle.report_text.proofs.joined.report_joined.Tie as tie
+
+array-borrow-prefix-room : tie.Need-array-borrow-prefix-room
+array-borrow-prefix-room c = search needs
+
+slice-aggregate-join : tie.Need-slice-aggregate-join
+slice-aggregate-join c = length-front (c .before .before .before .args .l) 952 (omega arith)
+
+join-requires : tie.Need-join-requires
+join-requires c κs = search needs
+
+usable-in-requires : tie.Need-usable-in-requires
+usable-in-requires c κs = search needs
+
+cast-put-lines : tie.Need-cast-put-lines
+cast-put-lines c = search needs
+
+put-lines-requires : tie.Need-put-lines-requires
+put-lines-requires c κs = search needs
+
+same-length : tie.Need-same-length
+same-length c = search needs
+
+returns : tie.Need-returns
+returns c =
+    let lines = c .before .before in
+    let usables = lines .before .before in
+    let join = usables .before .before in
+    let a = join .before .before .before .before .args in
+    record { result = join .join .result; left = join .join .last .1 .1 .1 .1 .0; done = rw (take-zeros (a .l) 952 (omega arith)) at (join .join .ensures); written = rw (usables .usable-in .ensures, lines-of-set) at (lines .put-lines .ensures) }
+
+pub report-joined-spec : {M : Type 1} → statement M
+report-joined-spec =
+    tie.close
+    (tie.spec
+    array-borrow-prefix-room
+    slice-aggregate-join
+    join-requires
+    usable-in-requires
+    cast-put-lines
+    put-lines-requires
+    same-length
+    returns)

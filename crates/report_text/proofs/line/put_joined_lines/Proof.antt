@@ -1,0 +1,60 @@
+-- `line::put_joined_lines` meets its contract: each line is written right behind the one before, and there is room for it.
+-- Assumes nothing.
+use native.Mathlib.Omega.{arith}
+use borrow.Author.Needs.{needs}
+use Rattle.lines.specs.LineLaws.{length-stamp-line}
+use Rattle.lines.specs.Written.{written-more}
+use Rattle.report_text.proofs.JoinedLines.{Short, short-lines}
+use Rattle.report_text.proofs.line.put_joined_lines.Statement.{statement}
+use Rattle.report_text.proofs.line.put_joined_lines.Tie as tie
+
+short : (c : tie.After-struct-known)
+    → let a = c .before .before .before .before .before .before .before .before .before .before .args in Short (a .n) (a .stamp) (a .l) (a .usable) (a .joined)
+short c =
+    let start = c .before .before .before .before .before .before .before .before .before .before in
+    let a = start .args in
+    short-lines (a .n) (a .stamp) (a .l) (a .usable) (a .joined) (start .pre .0) (omega arith) (omega arith) (omega arith) (omega arith) (omega arith)
+
+put-stamp-line-requires : tie.Need-put-stamp-line-requires
+put-stamp-line-requires c κs = search needs
+
+put-keepers-requires : tie.Need-put-keepers-requires
+put-keepers-requires c κs =
+    let a = c .before .before .before .before .before .before .args in
+    let stamp = length-stamp-line (a .stamp) (a .l) (omega arith) (omega arith) in
+    (omega arith, omega arith)
+
+put-count-line-requires : tie.Need-put-count-line-requires
+put-count-line-requires c κs =
+    let lines = short (c .before) in
+    omega arith
+
+put-answer-line-requires : tie.Need-put-answer-line-requires
+put-answer-line-requires c κs =
+    let lines = short (c .before .before .before .before .before) in
+    omega arith
+
+same-length : tie.Need-same-length
+same-length c = search needs
+
+returns : tie.Need-returns
+returns c =
+    let answer = c .before .before in
+    let count = answer .before .before .before .before in
+    let keepers = count .before .before .before .before .before in
+    let stamp = keepers .before .before .before .before in
+    let lines = short (count .before .before) in
+    written-more (omega arith) (stamp .put-stamp-line .ensures)
+    (written-more (omega arith) (keepers .put-keepers .ensures)
+    (written-more (omega arith) (count .put-count-line .ensures) (answer .put-answer-line .ensures)))
+
+pub put-joined-lines-spec : {M : Type 1} → statement M
+put-joined-lines-spec =
+    tie.close
+    (tie.spec
+    put-stamp-line-requires
+    put-keepers-requires
+    put-count-line-requires
+    put-answer-line-requires
+    same-length
+    returns)

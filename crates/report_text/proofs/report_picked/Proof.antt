@@ -1,0 +1,66 @@
+-- `report_picked` meets its contract: by the pick's number there is only an answer, or the group picked is joined.
+-- Assumes nothing.
+use native.Mathlib.Omega.{arith}
+use borrow.Author.Needs.{needs}
+use Rattle.report_text.specs.PickedLaws.{picked-joinable}
+use Rattle.report_text.proofs.Reporting.{unpicked-reported, joined-reported, all-of}
+use Rattle.report_text.proofs.report_picked.Statement.{statement}
+use Rattle.report_text.proofs.report_picked.Tie as tie
+
+sub-tray : tie.Need-sub-tray
+sub-tray c = search needs
+
+part-tray-start : tie.Need-part-tray-start
+part-tray-start c = search needs
+
+part-tray-end : tie.Need-part-tray-end
+part-tray-end c = search needs
+
+pick-requires : tie.Need-pick-requires
+pick-requires c κs = search needs
+
+put-answer-line-requires : tie.Need-put-answer-line-requires
+put-answer-line-requires c κs = search needs
+
+same-length : tie.Need-same-length
+same-length c = search needs
+
+returns : tie.Need-returns
+returns c =
+    let line = c .before .before in
+    let way = line .before .before in
+    let pick = way .before .before in
+    let start = pick .before .before .before .before in
+    unpicked-reported (start .args .input .now) (start .pre .0) (start .pre .1 .0) (all-of (start .args .input .now) 3) (pick .pick .ensures) (way .if1 .taken) (line .put-answer-line .ensures)
+
+report-joined-requires : tie.Need-report-joined-requires
+report-joined-requires c κs =
+    let way = c .before in
+    let pick = way .before .before in
+    (picked-joinable (pick .pick .ensures) (way .if1 .left), omega arith)
+
+same-length-2 : tie.Need-same-length-2
+same-length-2 c = search needs
+
+returns-2 : tie.Need-returns-2
+returns-2 c =
+    let join = c .before .before in
+    let way = join .before .before in
+    let pick = way .before .before in
+    let start = pick .before .before .before .before in
+    joined-reported (start .args .input .now) (start .pre .0) (start .pre .1 .0) (all-of (start .args .input .now) 3) (pick .pick .ensures) (way .if1 .left) (join .report-joined .ensures)
+
+pub report-picked-spec : {M : Type 1} → statement M
+report-picked-spec =
+    tie.close
+    (tie.spec
+    sub-tray
+    part-tray-start
+    part-tray-end
+    pick-requires
+    put-answer-line-requires
+    same-length
+    returns
+    report-joined-requires
+    same-length-2
+    returns-2)

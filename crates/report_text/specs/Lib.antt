@@ -1,0 +1,4 @@
+pub mod Joined
+pub mod PickedLaws
+pub mod Report
+pub mod Sets

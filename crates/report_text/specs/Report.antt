@@ -1,0 +1,66 @@
+-- The report, line by line.
+-- Assumes nothing.
+use Prim.Native.Nat.{ℕ, suc, _<_, _≤_}
+use mathlib.Core.Path.{_≡_}
+use mathlib.Core.Bool.{Bool, cond, _||_}
+use mathlib.Core.List.{List, _++_}
+use lib.Count.{ones}
+use lib.Dec.{eqb}
+use lib.ListN.{length, getD, drop, replicate}
+use Rattle.lists.specs.KeeperSet.{member}
+use Rattle.lists.specs.Pieces.{pieces}
+use Rattle.field.specs.Modulo.{mod257}
+use Rattle.lines.specs.declared.line.Standing.{Standing}
+use Rattle.lines.specs.declared.line.Standing.the-variants.{Absent, Present, Agrees, Differs}
+use Rattle.lines.specs.Lines.{stampLine, keeperLine, countLine, answerLine, wordOf}
+use Rattle.format.specs.declared.order.Order.{Order}
+use Rattle.tray.specs.Tray.{usable}
+use Rattle.pick.specs.Pick.{PickDone, picked}
+use Rattle.join.specs.declared.Joined.{Joined}
+use Rattle.join.specs.Join.{JoinDone}
+
+-- "'Absent' means not usable in the group picked. For 7 every usable keeper is 'present'." "For 8 it reads as for 0."
+abbrev pub standing : ℕ → Bool → Bool → Standing
+standing number isUsable matches = cond isUsable (cond (eqb number 7) Present (cond matches Agrees Differs)) Absent
+
+abbrev pub keeperLines : Order → List ℕ → ℕ → ℕ → Joined → List ℕ
+keeperLines order tray stamp l result =
+    pieces (λ k. keeperLine (suc k) (wordOf (standing (result .number) (usable order stamp l tray (suc k)) (member (result .set) (suc k))))) (order .n)
+
+-- "The size of the agreement is the number of ones in that set."
+abbrev pub joinedLines : Order → List ℕ → ℕ → ℕ → Joined → List ℕ
+joinedLines order tray stamp l result =
+    stampLine stamp l
+    ++ (keeperLines order tray stamp l result
+    ++ (countLine (result .usable) (result .need) (ones (result .set))
+    ++ answerLine (result .number)))
+
+-- the numbers with which the lines of the join are written; "For any other number only the last line is written."
+abbrev pub told : ℕ → Bool
+told number = eqb number 0 || (eqb number 7 || eqb number 8)
+
+unfoldable pub lines : Order → List ℕ → ℕ → ℕ → Joined → List ℕ
+lines order tray stamp l result = cond (told (result .number)) (joinedLines order tray stamp l result) (answerLine (result .number))
+
+-- "three bytes t, f, n, then the tray"
+abbrev pub orderIn : List ℕ → Order
+orderIn input = record { t = getD input 0 0; f = getD input 1 0; n = getD input 2 0 }
+
+abbrev pub trayIn : List ℕ → List ℕ
+trayIn input = drop 3 input
+
+-- what the report of an input is: fewer bytes than an order are answer 4; then the pick, and the join of what it picked
+pub data ReportOf (input : List ℕ) : List ℕ → Type 0 where
+  short : length input < 3 → ReportOf input (answerLine 4)
+  unpicked : (number : ℕ) → 3 ≤ length input → PickDone (orderIn input) (trayIn input) (picked number 0 0) → (number ≡ 0 → ⊥) → ReportOf input (answerLine number)
+  joined : (stamp l : ℕ) (result : Joined) (left : List ℕ) → 3 ≤ length input
+      → PickDone (orderIn input) (trayIn input) (picked 0 stamp l)
+      → JoinDone mod257 (orderIn input) stamp l (trayIn input) (replicate l 0) result left
+      → ReportOf input (lines (orderIn input) (trayIn input) stamp l result)
+
+-- the report stands at the start of the space lent, the count of its bytes is answered, and the rest of the space is as it was
+pub record Reported (input before : List ℕ) (count : ℕ) (after : List ℕ) : Type 0 where
+  pub bytes : List ℕ
+  pub right : ReportOf input bytes
+  pub counted : count ≡ length bytes
+  pub written : after ≡ bytes ++ drop (length bytes) before

@@ -1,0 +1,53 @@
+-- The lines of a join, said of the sets of keepers: that of the usable, and that of those that match.
+-- Assumes nothing.
+use Prim.Native.Nat.{ℕ, zero, suc, _+_, _*_, _≤_}
+use mathlib.Core.Path.{_≡_, ap}
+use mathlib.Core.Bool.{cond}
+use mathlib.Core.List.{List, _++_}
+use native.Mathlib.Omega.{arith}
+use lib.Count.{ones}
+use lib.ListN.{length, length-append}
+use Rattle.lists.specs.KeeperSet.{keeperSet, member}
+use Rattle.lists.specs.KeeperSetLaws.{member-keeper-set}
+use Rattle.lists.specs.Pieces.{pieces, pieces-same}
+use Rattle.lines.specs.Lines.{stampLine, keeperLine, countLine, answerLine, wordOf}
+use Rattle.lines.specs.LineLaws.{length-keeper-line}
+use Rattle.format.specs.declared.order.Order.{Order}
+use Rattle.tray.specs.Tray.{usable}
+use Rattle.join.specs.declared.Joined.{Joined}
+use Rattle.report_text.specs.Report.{standing, told, lines}
+
+-- the line of keeper k + 1
+abbrev pub lineOf : ℕ → ℕ → ℕ → ℕ → List ℕ
+lineOf number usables set k = keeperLine (suc k) (wordOf (standing number (member usables (suc k)) (member set (suc k))))
+
+abbrev pub joinedLinesOf : ℕ → ℕ → ℕ → ℕ → Joined → List ℕ
+joinedLinesOf n stamp l usables result =
+    stampLine stamp l
+    ++ (pieces (lineOf (result .number) usables (result .set)) n
+    ++ (countLine (result .usable) (result .need) (ones (result .set))
+    ++ answerLine (result .number)))
+
+unfoldable pub linesOf : ℕ → ℕ → ℕ → ℕ → Joined → List ℕ
+linesOf n stamp l usables result = cond (told (result .number)) (joinedLinesOf n stamp l usables result) (answerLine (result .number))
+
+-- sixteen keepers' lines are short
+pub length-keepers : (number usables set n : ℕ) → n ≤ 16 → length (pieces (lineOf number usables set) n) ≤ 18 * n
+unfolding pieces
+length-keepers number usables set zero h = omega arith
+length-keepers number usables set (suc k) h =
+    rw length-append
+    (omega (arith, length-keepers number usables set k (omega arith), length-keeper-line (suc k) (standing number (member usables (suc k)) (member set (suc k))) (omega arith)))
+
+-- where the first set is that of the usable keepers, these are the lines of the report
+module _ (order : Order) (tray : List ℕ) (stamp l : ℕ) (result : Joined) where
+  one-line : (k : ℕ) → suc k ≤ order .n
+      → lineOf (result .number) (keeperSet (usable order stamp l tray) (order .n)) (result .set) k
+      ≡ keeperLine (suc k) (wordOf (standing (result .number) (usable order stamp l tray (suc k)) (member (result .set) (suc k))))
+  one-line k h = rw (member-keeper-set (usable order stamp l tray) (order .n) (suc k) (omega arith) h)
+
+  pub lines-of-set : linesOf (order .n) stamp l (keeperSet (usable order stamp l tray) (order .n)) result ≡ lines order tray stamp l result
+  unfolding linesOf lines
+  lines-of-set =
+      ap (λ (ks : List ℕ). cond (told (result .number)) (stampLine stamp l ++ (ks ++ (countLine (result .usable) (result .need) (ones (result .set)) ++ answerLine (result .number)))) (answerLine (result .number)))
+      (pieces-same _ _ (order .n) one-line)

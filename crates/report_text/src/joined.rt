@@ -1,0 +1,30 @@
+// The report of the letters picked: of their join.
+ghost use mathlib.Core.Path.{_≡_};
+ghost use lib.ListN.{length};
+ghost use Rattle.lists.specs.KeeperSet.{keeperSet};
+ghost use Rattle.tray.specs.Tray.{usable};
+ghost use Rattle.report_text.specs.Joined.{Joinable, JoinedReported};
+use crate::line::put_lines;
+use format::order::Order;
+use join::join;
+use tray::scan;
+
+// The usable keepers, as a set.
+fn usable_in(o: Order, stamp: u32, l: usize, tray: &[u8]) -> u16
+    requires { ⌜ Joinable o l (now tray) ⌝ }
+    ensures { λ r. ⌜ r ≡ keeperSet (usable o stamp l (now (tray .entry))) (o .n) ⌝ }
+{
+    let mut rows = [0u16; 15232];
+    scan(o, stamp, l, tray, &mut rows)
+}
+
+// The report of the join of what is picked.
+pub fn report_joined(o: Order, stamp: u32, l: usize, tray: &[u8], out: &mut [u8]) -> usize
+    requires { ⌜ Joinable o l (now tray) ⌝ ∗ ⌜ length (now out) ≡ 512 ⌝ }
+    ensures { λ r. ⌜ JoinedReported o stamp l (now (tray .entry)) (now (out .entry)) r (now (out .exit)) ⌝ }
+{
+    let mut room = [0u8; 952];
+    let joined = join(o, stamp, l, tray, &mut room[..l]);
+    let usable = usable_in(o, stamp, l, tray);
+    put_lines(out, o.n, stamp, l as u32, usable, joined)
+}

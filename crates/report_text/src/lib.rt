@@ -1,0 +1,41 @@
+// The report: from the input's bytes to the report's bytes.
+ghost use mathlib.Core.Path.{_≡_};
+ghost use Prim.Native.Nat.{_≤_};
+ghost use lib.ListN.{length};
+ghost use Rattle.report_text.specs.Report.{orderIn, Reported};
+use crate::joined::report_joined;
+use format::order::Order;
+use lines::line::put_answer_line;
+use pick::pick;
+
+mod joined;
+mod keeper;
+mod line;
+
+// The report of an input that has an order: of what is picked.
+fn report_picked(o: Order, input: &[u8], out: &mut [u8]) -> usize
+    requires { ⌜ 3 ≤ length (now input) ⌝ ∗ ⌜ o ≡ orderIn (now input) ⌝ ∗ ⌜ length (now out) ≡ 512 ⌝ }
+    ensures { λ r. ⌜ Reported (now (input .entry)) (now (out .entry)) r (now (out .exit)) ⌝ }
+{
+    let tray = &input[3..];
+    let picked = pick(o, tray);
+    if picked.number != 0 {
+        return put_answer_line(out, 0, picked.number);
+    }
+    report_joined(o, picked.stamp, picked.length, tray, out)
+}
+
+// Writes the report, and answers the count of its bytes.
+pub fn report(input: &[u8], out: &mut [u8; 512]) -> usize
+    ensures { λ r. ⌜ Reported (now (input .entry)) (now (out .entry)) r (now (out .exit)) ⌝ }
+{
+    if input.len() < 3 {
+        return put_answer_line(out, 0, 4);
+    }
+    let o = Order {
+        t: input[0] as usize,
+        f: input[1] as usize,
+        n: input[2] as usize,
+    };
+    report_picked(o, input, out)
+}
