@@ -10,6 +10,7 @@
 use std::io::{BufReader, Read, Write};
 use std::process::{Child, ChildStdin, ChildStdout, Command, Stdio};
 
+use crate::desk::{Desk, Stored};
 use crate::join::Joined;
 use crate::order::Order;
 
@@ -124,6 +125,25 @@ impl Peer {
         let [number, usable, need, set, ..] = numbers;
         Joined { number, usable, need, set }
     }
+
+    pub fn store(&mut self, desk: Desk, held: &mut [u8], offered: &[u8]) -> Stored {
+        let Reply { numbers, left } = self.call(3, &told(desk), &[held, offered]);
+        assert!(left[1] == offered, "the letter is only lent to be read");
+        held.copy_from_slice(&left[0]);
+        let [number, place, ..] = numbers;
+        Stored { number, place }
+    }
+
+    pub fn fetch(&mut self, desk: Desk, held: &[u8]) -> u32 {
+        let Reply { numbers, left } = self.call(4, &told(desk), &[held]);
+        assert!(left[0] == held, "the held slot is only lent to be read");
+        numbers[0]
+    }
+}
+
+/// What a desk is told at each call.
+fn told(desk: Desk) -> [u32; 4] {
+    [desk.order.t, desk.order.f, desk.order.n, desk.keeper]
 }
 
 impl Drop for Peer {
