@@ -125,6 +125,23 @@ cs_store_result cs_store(uint32_t t, uint32_t f, uint32_t n, uint32_t keeper,
 uint32_t cs_fetch(uint32_t t, uint32_t f, uint32_t n, uint32_t keeper,
                   const uint8_t *held, size_t held_length);
 
+/* What to join of a tray. */
+typedef struct {
+    uint32_t number; /* 0, 1, 4 or 6 */
+    uint32_t stamp;
+    uint32_t length; /* of the secret, in bytes */
+} cs_pick_result;
+
+/*
+ * Picks what to join: of the tray's good letters of this order, each in its own keeper's slot,
+ * grouped by stamp and length, the group of at least t+f+1 with the greatest stamp, and of those the
+ * greatest length.
+ *
+ * Lent: the tray, n*2048 bytes, read only.
+ */
+cs_pick_result cs_pick(uint32_t t, uint32_t f, uint32_t n,
+                       const uint8_t *tray, size_t tray_length);
+
 #ifdef __cplusplus
 }
 #endif

@@ -78,6 +78,13 @@ static void answer_store(const uint32_t *number, uint8_t *held, size_t held_size
     result[1] = r.place;
 }
 
+static void answer_pick(const uint32_t *number, const uint8_t *tray, size_t size) {
+    cs_pick_result r = cs_pick(number[0], number[1], number[2], tray, size);
+    result[0] = r.number;
+    result[1] = r.stamp;
+    result[2] = r.length;
+}
+
 /* Whether there is such a call. */
 static int answer(void) {
     uint8_t *first = memory[0] + GUARD, *second = memory[1] + GUARD, *third = memory[2] + GUARD;
@@ -93,6 +100,7 @@ static int answer(void) {
     case 4:
         result[0] = cs_fetch(number[0], number[1], number[2], number[3], first, size[0]);
         return 1;
+    case 5: answer_pick(number, first, size[0]); return 1;
     default: return 0;
     }
 }

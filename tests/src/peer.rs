@@ -13,6 +13,7 @@ use std::process::{Child, ChildStdin, ChildStdout, Command, Stdio};
 use crate::desk::{Desk, Stored};
 use crate::join::Joined;
 use crate::order::Order;
+use crate::pick::Picked;
 
 const NUMBERS: usize = 5;
 const PARTS: usize = 3;
@@ -138,6 +139,14 @@ impl Peer {
         let Reply { numbers, left } = self.call(4, &told(desk), &[held]);
         assert!(left[0] == held, "the held slot is only lent to be read");
         numbers[0]
+    }
+
+    pub fn pick(&mut self, order: Order, tray: &[u8]) -> Picked {
+        let numbers = [order.t, order.f, order.n];
+        let Reply { numbers, left } = self.call(5, &numbers, &[tray]);
+        assert!(left[0] == tray, "the tray is only lent to be read");
+        let [number, stamp, length, ..] = numbers;
+        Picked { number, stamp, length }
     }
 }
 
