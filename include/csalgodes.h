@@ -98,6 +98,50 @@ cs_join_result cs_join(uint32_t t, uint32_t f, uint32_t n, uint32_t stamp, uint3
                        const uint8_t *tray, size_t tray_length,
                        uint8_t *room, size_t room_length);
 
+/* What became of a letter at the desk. */
+typedef struct {
+    uint32_t number; /* 0, 1, 4, or 9..16 */
+    uint32_t place;  /* of 9..12: the place of the first faulty block, from 0; else 0 */
+} cs_store_result;
+
+/*
+ * Offers a letter to the desk of this order and keeper. The letter is judged in this order: 1, 4, its
+ * own 9..13, 16, 14, 15. Where the answer is 0 the desk then holds it; the letter that it held
+ * already is no change. A held slot that isn't good for this desk counts as empty.
+ *
+ * Lent: the held slot, 2048 bytes, all zeros for a new desk, replaced whole or not at all; the
+ * letter, 2048 bytes, read only.
+ */
+cs_store_result cs_store(uint32_t t, uint32_t f, uint32_t n, uint32_t keeper,
+                         uint8_t *held, size_t held_length,
+                         const uint8_t *letter, size_t letter_length);
+
+/*
+ * Whether the desk has a letter to hand back. 0: the held slot is that letter. Else nothing is to be
+ * handed back, and the number is 1, 4 or 17, judged in that order.
+ *
+ * Lent: the held slot, 2048 bytes, read only.
+ */
+uint32_t cs_fetch(uint32_t t, uint32_t f, uint32_t n, uint32_t keeper,
+                  const uint8_t *held, size_t held_length);
+
+/* What to join of a tray. */
+typedef struct {
+    uint32_t number; /* 0, 1, 4 or 6 */
+    uint32_t stamp;
+    uint32_t length; /* of the secret, in bytes */
+} cs_pick_result;
+
+/*
+ * Picks what to join: of the tray's good letters of this order, each in its own keeper's slot,
+ * grouped by stamp and length, the group of at least t+f+1 with the greatest stamp, and of those the
+ * greatest length.
+ *
+ * Lent: the tray, n*2048 bytes, read only.
+ */
+cs_pick_result cs_pick(uint32_t t, uint32_t f, uint32_t n,
+                       const uint8_t *tray, size_t tray_length);
+
 #ifdef __cplusplus
 }
 #endif

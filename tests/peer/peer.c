@@ -70,6 +70,21 @@ static void answer_join(const uint32_t *number, const uint8_t *tray, size_t size
     result[3] = r.set;
 }
 
+static void answer_store(const uint32_t *number, uint8_t *held, size_t held_size,
+                         const uint8_t *letter, size_t size) {
+    cs_store_result r = cs_store(number[0], number[1], number[2], number[3], held, held_size,
+                                 letter, size);
+    result[0] = r.number;
+    result[1] = r.place;
+}
+
+static void answer_pick(const uint32_t *number, const uint8_t *tray, size_t size) {
+    cs_pick_result r = cs_pick(number[0], number[1], number[2], tray, size);
+    result[0] = r.number;
+    result[1] = r.stamp;
+    result[2] = r.length;
+}
+
 /* Whether there is such a call. */
 static int answer(void) {
     uint8_t *first = memory[0] + GUARD, *second = memory[1] + GUARD, *third = memory[2] + GUARD;
@@ -81,6 +96,11 @@ static int answer(void) {
                            (const uint16_t *)second, size[1] / 2, third, size[2]);
         return 1;
     case 2: answer_join(number, first, size[0], second, size[1]); return 1;
+    case 3: answer_store(number, first, size[0], second, size[1]); return 1;
+    case 4:
+        result[0] = cs_fetch(number[0], number[1], number[2], number[3], first, size[0]);
+        return 1;
+    case 5: answer_pick(number, first, size[0]); return 1;
     default: return 0;
     }
 }

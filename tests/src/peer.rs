@@ -10,8 +10,10 @@
 use std::io::{BufReader, Read, Write};
 use std::process::{Child, ChildStdin, ChildStdout, Command, Stdio};
 
+use crate::desk::{Desk, Stored};
 use crate::join::Joined;
 use crate::order::Order;
+use crate::pick::Picked;
 
 const NUMBERS: usize = 5;
 const PARTS: usize = 3;
@@ -124,6 +126,33 @@ impl Peer {
         let [number, usable, need, set, ..] = numbers;
         Joined { number, usable, need, set }
     }
+
+    pub fn store(&mut self, desk: Desk, held: &mut [u8], offered: &[u8]) -> Stored {
+        let Reply { numbers, left } = self.call(3, &told(desk), &[held, offered]);
+        assert!(left[1] == offered, "the letter is only lent to be read");
+        held.copy_from_slice(&left[0]);
+        let [number, place, ..] = numbers;
+        Stored { number, place }
+    }
+
+    pub fn fetch(&mut self, desk: Desk, held: &[u8]) -> u32 {
+        let Reply { numbers, left } = self.call(4, &told(desk), &[held]);
+        assert!(left[0] == held, "the held slot is only lent to be read");
+        numbers[0]
+    }
+
+    pub fn pick(&mut self, order: Order, tray: &[u8]) -> Picked {
+        let numbers = [order.t, order.f, order.n];
+        let Reply { numbers, left } = self.call(5, &numbers, &[tray]);
+        assert!(left[0] == tray, "the tray is only lent to be read");
+        let [number, stamp, length, ..] = numbers;
+        Picked { number, stamp, length }
+    }
+}
+
+/// What a desk is told at each call.
+fn told(desk: Desk) -> [u32; 4] {
+    [desk.order.t, desk.order.f, desk.order.n, desk.keeper]
 }
 
 impl Drop for Peer {
