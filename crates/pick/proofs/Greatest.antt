@@ -1,11 +1,20 @@
 -- The greatest key of a large group, place after place.
 -- Assumes nothing.
 use Prim.Native.Nat.{ℕ, _+_, _≤_, _<_}
+use mathlib.Core.Path.{_≡_, refl, sym, _∙_}
+use mathlib.Core.Bool.{Bool, true, false, _&&_}
 use mathlib.Core.List.{List}
 use native.Mathlib.Omega.{arith}
+use lib.Dec.{leb, ltb}
 use lib.ListN.{getD}
 use borrow.Author.Count.{below-more}
-use Rattle.pick.specs.Keys.{sizeOf, BestOf}
+use borrow.Author.Tests.{ltb-true, ltb-false, leb-true, le-leb}
+use Rattle.format.specs.Passing.{and-left, and-right}
+use Rattle.pick.specs.Keys.{sizeOf, comesNext, BestOf}
+
+first-fails : (a b : Bool) → (a && b) ≡ false → b ≡ true → a ≡ false
+first-fails false b e passes = refl
+first-fails true b e passes = sym passes ∙ e
 
 -- of n places, those before k are seen
 pub record BestTo (keys : List ℕ) (n least : ℕ) (best k : ℕ) : Type 0 where
@@ -22,18 +31,27 @@ module _ {keys : List ℕ} {n least : ℕ} where
     best-all past = record { most = λ j l. before .most j (omega arith); large = before .large }
 
     module _ (within : k < n) where
-      pub best-kept : (least ≤ sizeOf keys n (getD keys k 0) → getD keys k 0 ≤ best) → BestTo keys n least best (k + 1)
-      best-kept here = record {
+      pub best-kept : comesNext keys n least (getD keys k 0) best ≡ false → BestTo keys n least best (k + 1)
+      unfolding comesNext
+      best-kept stays = record {
         reached = omega arith;
-        most = below-more (λ j. least ≤ sizeOf keys n (getD keys j 0) → getD keys j 0 ≤ best) k (before .most) here;
+        most =
+            below-more (λ j. least ≤ sizeOf keys n (getD keys j 0) → getD keys j 0 ≤ best) k (before .most)
+            (λ many. ltb-false best (getD keys k 0) (first-fails _ _ stays (le-leb least _ many)));
         large = before .large;
       }
 
-      pub best-next : best < getD keys k 0 → least ≤ sizeOf keys n (getD keys k 0) → BestTo keys n least (getD keys k 0) (k + 1)
-      best-next later enough = record {
-        reached = omega arith;
-        most =
-            below-more (λ j. least ≤ sizeOf keys n (getD keys j 0) → getD keys j 0 ≤ getD keys k 0) k
-            (λ j l many. let earlier = before .most j l many in omega arith) (λ many. omega arith);
-        large = λ some. enough;
-      }
+      pub best-next : comesNext keys n least (getD keys k 0) best ≡ true → BestTo keys n least (getD keys k 0) (k + 1)
+      unfolding comesNext
+      best-next comes =
+          let key = getD keys k 0 in
+          let size = sizeOf keys n key in
+          let later : best < key = ltb-true best key (and-left (ltb best key) (leb least size) comes) in
+          let enough : least ≤ size = leb-true least size (and-right (ltb best key) (leb least size) comes) in
+          record {
+            reached = omega arith;
+            most =
+                below-more (λ j. least ≤ sizeOf keys n (getD keys j 0) → getD keys j 0 ≤ getD keys k 0) k
+                (λ j l many. let earlier = before .most j l many in omega arith) (λ many. omega arith);
+            large = λ some. enough;
+          }

@@ -2,9 +2,9 @@
 -- Assumes nothing.
 use Prim.Native.Nat.{ℕ, _+_, _-_, _*_, _/_, _%_, _≤_, _<_}
 use mathlib.Core.Path.{_≡_}
-use mathlib.Core.Bool.{cond}
+use mathlib.Core.Bool.{Bool, cond, _&&_}
 use mathlib.Core.List.{List}
-use lib.Dec.{eqb}
+use lib.Dec.{eqb, leb, ltb}
 use lib.ListN.{getD}
 use Rattle.lists.specs.Count.{count}
 use Rattle.lists.specs.From.{from}
@@ -36,6 +36,10 @@ pub record KeysOf (order : Order) (tray keys : List ℕ) : Type 0 where
 -- the size of a key's group: how many of the first n keys it is
 unfoldable pub sizeOf : List ℕ → ℕ → ℕ → ℕ
 sizeOf keys n key = count (λ x. eqb (getD keys (x - 1) 0) key) (from 1 n)
+
+-- whether a key comes after another and its group is at least so large
+unfoldable pub comesNext : List ℕ → ℕ → ℕ → ℕ → ℕ → Bool
+comesNext keys n least key best = ltb best key && leb least (sizeOf keys n key)
 
 -- the greatest of the first n keys whose group is at least so large; 0 where there is none
 pub record BestOf (keys : List ℕ) (n least best : ℕ) : Type 0 where

@@ -2,7 +2,7 @@
 ghost use mathlib.Core.Path.{_≡_};
 ghost use Prim.Native.Nat.{_<_, _≤_};
 ghost use lib.ListN.{length};
-ghost use Rattle.pick.specs.Keys.{sizeOf, BestOf, answerOf};
+ghost use Rattle.pick.specs.Keys.{sizeOf, comesNext, BestOf, answerOf};
 ghost use Rattle.pick.specs.Pick.{pickRefusal, PickDone};
 use crate::keys::gather;
 use format::order;
@@ -42,6 +42,14 @@ fn group_size(keys: &[u64], n: usize, key: u64) -> usize
     size
 }
 
+// Whether a key comes after another and its group is at least so large.
+fn comes_next(keys: &[u64], n: usize, least: usize, key: u64, best: u64) -> bool
+    requires { ⌜ n ≤ length (now keys) ⌝ }
+    ensures { λ r. ⌜ r ≡ comesNext (now (keys .entry)) n least key best ⌝ }
+{
+    best < key && least <= group_size(keys, n, key)
+}
+
 // The greatest of the first n keys whose group is at least so large; 0 where there is none.
 fn best_of(keys: &[u64], n: usize, least: usize) -> u64
     requires { ⌜ n ≤ length (now keys) ⌝ }
@@ -51,7 +59,7 @@ fn best_of(keys: &[u64], n: usize, least: usize) -> u64
     let mut k = 0;
     while k < n {
         let key = keys[k];
-        if best < key && least <= group_size(keys, n, key) {
+        if comes_next(keys, n, least, key, best) {
             best = key;
         }
         k += 1;

@@ -2,9 +2,7 @@
 -- Assumes nothing.
 use Prim.Native.Nat.{_-_}
 use mathlib.Core.Logic.{⊎-elim}
-use native.Mathlib.Omega.{arith}
 use borrow.Author.Needs.{needs}
-use borrow.Author.Tests.{leb-true, leb-false}
 use Rattle.pick.proofs.Greatest.{BestTo, best-none, best-kept, best-next, best-all}
 use Rattle.pick.proofs.best_of.Statement.{statement}
 use Rattle.pick.proofs.best_of.Tie as tie
@@ -24,8 +22,8 @@ mul-key c = search needs
 shared-slice-read-key : tie.Need-shared-slice-read-key Inv-loop μ-loop
 shared-slice-read-key c = search needs
 
-group-size-requires : tie.Need-group-size-requires Inv-loop μ-loop
-group-size-requires c κs = search needs
+comes-next-requires : tie.Need-comes-next-requires Inv-loop μ-loop
+comes-next-requires c κs = search needs
 
 add-k : tie.Need-add-k Inv-loop μ-loop
 add-k c = search needs
@@ -35,13 +33,10 @@ loop-less c = search needs
 
 loop-again : tie.Need-loop-again Inv-loop μ-loop
 loop-again c =
-    let turn = c .before .before in
-    let here = turn .before .loop .inv in
-    let within = turn .loop-test .taken in
+    let turn = c .before .before .before in
     ⊎-elim
-    (λ w. rw (w .3) (best-next here within (w .0 .taken) (omega (arith, w .1 .ensures, leb-true))))
-    (λ w. rw (w .1) (best-kept here within
-    (⊎-elim (λ v many. absurd (omega (arith, v .1 .ensures, leb-false))) (λ v many. v .left) (w .0 .came))))
+    (λ w. rw (w .1) (best-next (turn .before .loop .inv) (turn .loop-test .taken) (rw (← c .before .comes-next .ensures) (w .0 .taken))))
+    (λ w. rw (w .1) (best-kept (turn .before .loop .inv) (turn .loop-test .taken) (rw (← c .before .comes-next .ensures) (w .0 .left))))
     (c .if1 .came)
 
 returns : tie.Need-returns Inv-loop μ-loop
@@ -56,7 +51,7 @@ best-of-spec =
     loop-holds
     mul-key
     shared-slice-read-key
-    group-size-requires
+    comes-next-requires
     add-k
     loop-less
     loop-again

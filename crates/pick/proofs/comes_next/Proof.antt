@@ -1,0 +1,23 @@
+-- `pick::comes_next` meets its contract, test by test.
+-- Assumes nothing.
+use borrow.Author.Needs.{needs}
+use borrow.Author.Tests.{lt-ltb, le-ltb}
+use Rattle.pick.specs.Keys.{comesNext}
+use Rattle.pick.proofs.comes_next.Statement.{statement}
+use Rattle.pick.proofs.comes_next.Tie as tie
+
+group-size-requires : tie.Need-group-size-requires
+group-size-requires c κs = search needs
+
+-- the first test fails
+returns-2 : tie.Need-returns-2
+unfolding comesNext
+returns-2 c = rw (le-ltb _ _ (c .if1 .left))
+
+-- it holds, and the second decides
+returns : tie.Need-returns
+unfolding comesNext
+returns c = rw (lt-ltb _ _ (c .before .if1 .taken), c .group-size .ensures)
+
+pub comes-next-spec : {M : Type 1} → statement M
+comes-next-spec = tie.close (tie.spec group-size-requires returns returns-2)
