@@ -4,6 +4,7 @@ ghost use Prim.Native.Nat.{_%_};
 ghost use lib.ListN.{length, take};
 ghost use Rattle.block.specs.Words.{bytesOf, wordsOf};
 ghost use Rattle.block.specs.Check.{plainCheck, weightedCheck, sealed, checked, blockNumber};
+use crate::weights::put_weights;
 use crate::words::all_at_most;
 use crate::words::put_words;
 use crate::words::word_at;
@@ -31,15 +32,15 @@ fn sums(block: &[u8]) -> CheckWords
     requires { ⌜ length (now block) ≡ 512 ⌝ }
     ensures { λ r. ⌜ (r .plain ≡ plainCheck (wordsOf (now (block .entry)))) × (r .weighted ≡ weightedCheck (wordsOf (now (block .entry)))) ⌝ }
 {
+    let mut weights = [0u16; 254];
+    put_weights(&mut weights);
     let mut plain: u32 = 0;
     let mut weighted: u32 = 0;
-    let mut weight: u32 = 1;
     let mut i = 0;
     while i < 254 {
         let w = wide(word_at(block, i));
         plain += w;
-        weighted += w * weight;
-        weight = weight * 3 % 257;
+        weighted += w * wide(weights[i]);
         i += 1;
     }
     CheckWords {
