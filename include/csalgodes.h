@@ -1,11 +1,15 @@
 /*
  * Csalgodes: shares of a signing key that come back right or not at all.
  *
- * The functions of the proved library, for C. Link libexports.a (x86-64 Linux). Each may be called
- * with any values of its types: what is wrong with them is answered by a number, never by a fault.
- * What is lent is a pointer and the number of elements behind it, and must really be there; the
- * pointer is not NULL, even where the number is 0. Nothing is kept after a call, and nothing is
- * allocated. A lent part that is written must not overlap another.
+ * The functions of the proved library, for C on x86-64 Linux. library/build lays libcsalgodes.a,
+ * libcsalgodes.so and this header in target/library. A program links either, as in
+ *
+ *    gcc program.c -I target/library target/library/libcsalgodes.a
+ *
+ * Each may be called with any values of its types: what is wrong with them is answered by a number,
+ * never by a fault. What is lent is a pointer and the number of elements behind it, and must really be
+ * there; the pointer is not NULL, even where the number is 0. Nothing is kept after a call, and
+ * nothing is allocated. A lent part that is written must not overlap another.
  *
  * The numbers a call can give:
  *

@@ -24,9 +24,12 @@ const GUARD_BYTE: u8 = 0xa5;
 /// Where the gate builds.
 const TARGET: &str = concat!(env!("CARGO_MANIFEST_DIR"), "/../target");
 
+/// Starts an x86-64 program on this machine.
+const START: &str = concat!(env!("CARGO_MANIFEST_DIR"), "/../library/start");
+
 /// A command that runs one of the project's x86-64 programs on this machine.
 pub fn program(path: &str) -> Command {
-    let mut command = Command::new(format!("{TARGET}/outside/run"));
+    let mut command = Command::new(START);
     command.arg(format!("{TARGET}/{path}"));
     command
 }
@@ -49,7 +52,7 @@ impl Peer {
             .stdin(Stdio::piped())
             .stdout(Stdio::piped())
             .spawn()
-            .expect("tests/peer/build makes the peer and what runs it");
+            .expect("library/start is there");
         let requests = process.stdin.take();
         let replies = BufReader::new(process.stdout.take().expect("it was asked for"));
         Peer { process, requests, replies }

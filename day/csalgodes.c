@@ -1,0 +1,176 @@
+/*
+ * The six calls of the library, as commands on files. A slot is a file of 2048 bytes; a tray is a folder
+ * of slots, named 1 .. n after their keepers. The status is the number that the call gave.
+ */
+#include "csalgodes.h"
+
+#include "files.h"
+#include "numbers.h"
+#include "random.h"
+
+int printf(const char *format, ...);
+int strcmp(const char *one, const char *other);
+
+enum { SLOT = 2048, MOST_KEEPERS = 16, MOST_T = 7, MOST_LENGTH = 952 };
+
+typedef struct {
+    uint32_t t, f, n;
+} order;
+
+typedef struct {
+    uint32_t number, place;
+} answer;
+
+static uint8_t tray[MOST_KEEPERS * SLOT];
+static uint8_t slot[SLOT + 1], letter[SLOT + 1];
+static uint8_t secret[MOST_LENGTH + 1];
+static uint16_t random_words[MOST_T * MOST_LENGTH];
+
+static uint32_t number_in(const char *word) {
+    uint64_t number = 0;
+    const char *at = word;
+    do {
+        if (*at < '0' || *at > '9') stop(word, "is not a number");
+        number = number * 10 + (uint64_t)(*at - '0');
+        if (number > UINT32_MAX) stop(word, "is too great a number");
+    } while (*++at);
+    return (uint32_t)number;
+}
+
+static order order_in(char **word) {
+    return (order){number_in(word[0]), number_in(word[1]), number_in(word[2])};
+}
+
+/* More keepers than there can be are answered with 1 whatever the tray, so it holds no more. */
+static uint32_t slots_of(order o) { return o.n < MOST_KEEPERS ? o.n : MOST_KEEPERS; }
+
+static const char *slot_path(const char *folder, uint32_t keeper) {
+    static char path[LONGEST_PATH];
+    int size = snprintf(path, sizeof path, "%s/%u", folder, keeper);
+    if (size < 0 || size >= LONGEST_PATH) stop(folder, "is too long a name");
+    return path;
+}
+
+static size_t load_tray(order o, const char *folder) {
+    for (uint32_t i = 0; i < slots_of(o); i++) {
+        const char *path = slot_path(folder, i + 1);
+        if (load(path, slot, sizeof slot) != SLOT) stop(path, "is not a slot of 2048 bytes");
+        for (size_t k = 0; k < SLOT; k++) tray[i * SLOT + k] = slot[k];
+    }
+    return slots_of(o) * SLOT;
+}
+
+static void save_tray(order o, const char *folder) {
+    for (uint32_t i = 0; i < o.n; i++) save(slot_path(folder, i + 1), tray + i * SLOT, SLOT);
+}
+
+/* T F N STAMP SECRET TRAY */
+static answer cut(char **word) {
+    order o = order_in(word);
+    size_t length = load(word[4], secret, sizeof secret);
+    /* a t or a length that is refused in any case needs no random words */
+    size_t count = o.t <= MOST_T && length <= MOST_LENGTH ? o.t * length : 0;
+    draw_words(random_words, count);
+    uint32_t number = cs_cut(o.t, o.f, o.n, number_in(word[3]), secret, length, random_words, count,
+                             tray, slots_of(o) * SLOT);
+    if (number == 0) save_tray(o, word[5]);
+    return (answer){number, 0};
+}
+
+/* SLOT */
+static answer read_slot(char **word) {
+    cs_read_result r = cs_read(slot, load(word[0], slot, sizeof slot));
+    if (r.number == 0) {
+        printf("order %u %u %u keeper %u stamp %u length %u\n", r.t, r.f, r.n, r.keeper, r.stamp,
+               r.length);
+    }
+    return (answer){r.number, r.place};
+}
+
+/* T F N KEEPER HELD LETTER */
+static answer store(char **word) {
+    order o = order_in(word);
+    size_t held_length = load(word[4], slot, sizeof slot);
+    size_t letter_length = load(word[5], letter, sizeof letter);
+    cs_store_result r = cs_store(o.t, o.f, o.n, number_in(word[3]), slot, held_length, letter,
+                                 letter_length);
+    if (r.number == 0) save(word[4], slot, SLOT);
+    return (answer){r.number, r.place};
+}
+
+/* T F N KEEPER HELD LETTER */
+static answer fetch(char **word) {
+    order o = order_in(word);
+    size_t held_length = load(word[4], slot, sizeof slot);
+    uint32_t number = cs_fetch(o.t, o.f, o.n, number_in(word[3]), slot, held_length);
+    if (number == 0) save(word[5], slot, SLOT);
+    return (answer){number, 0};
+}
+
+/* T F N TRAY */
+static answer pick(char **word) {
+    order o = order_in(word);
+    size_t tray_length = load_tray(o, word[3]);
+    cs_pick_result r = cs_pick(o.t, o.f, o.n, tray, tray_length);
+    if (r.number == 0) printf("stamp %u length %u\n", r.stamp, r.length);
+    return (answer){r.number, 0};
+}
+
+static void tell_agreement(order o, cs_join_result r) {
+    printf("usable %u need %u\n", r.usable, r.need);
+    if (r.set == 0) return;
+    printf("keepers that match:");
+    for (uint32_t x = 1; x <= o.n; x++) {
+        if (r.set >> (x - 1) & 1) printf(" %u", x);
+    }
+    printf("\n");
+}
+
+/* T F N STAMP LENGTH TRAY SECRET */
+static answer join(char **word) {
+    order o = order_in(word);
+    uint32_t length = number_in(word[4]);
+    /* too great a length is answered with 2 whatever the room */
+    size_t room = length < MOST_LENGTH ? length : MOST_LENGTH;
+    size_t tray_length = load_tray(o, word[5]);
+    cs_join_result r = cs_join(o.t, o.f, o.n, number_in(word[3]), length, tray, tray_length, secret,
+                               room);
+    if (r.need > 0) tell_agreement(o, r);
+    if (r.number == 0) save(word[6], secret, room);
+    return (answer){r.number, 0};
+}
+
+static const struct {
+    const char *name, *words;
+    int count;
+    answer (*call)(char **word);
+} commands[] = {
+    {"cut", "T F N STAMP SECRET TRAY", 6, cut},
+    {"read", "SLOT", 1, read_slot},
+    {"store", "T F N KEEPER HELD LETTER", 6, store},
+    {"fetch", "T F N KEEPER HELD LETTER", 6, fetch},
+    {"pick", "T F N TRAY", 4, pick},
+    {"join", "T F N STAMP LENGTH TRAY SECRET", 7, join},
+};
+
+enum { COMMANDS = sizeof commands / sizeof commands[0] };
+
+static void tell(answer a) {
+    printf("answer %u", a.number);
+    if (has_place(a.number)) printf(" in block %u", a.place);
+    printf(": %s\n", words_of[a.number]);
+}
+
+int main(int count, char **word) {
+    for (int i = 0; count > 1 && i < COMMANDS; i++) {
+        if (strcmp(word[1], commands[i].name) != 0 || count - 2 != commands[i].count) continue;
+        answer a = commands[i].call(word + 2);
+        tell(a);
+        return (int)a.number;
+    }
+    dprintf(2, "usage:\n");
+    for (int i = 0; i < COMMANDS; i++) {
+        dprintf(2, "  csalgodes %s %s\n", commands[i].name, commands[i].words);
+    }
+    return TROUBLE;
+}

@@ -1,0 +1,64 @@
+/* Whole files, in and out. */
+#ifndef DAY_FILES_H
+#define DAY_FILES_H
+
+#include <stddef.h>
+#include <stdint.h>
+
+/* Declared here, since where the kit's compiler builds this no header of the C library is at hand. */
+int open(const char *path, int flags, ...);
+int creat(const char *path, unsigned mode);
+long read(int file, void *bytes, size_t count);
+long write(int file, const void *bytes, size_t count);
+int close(int file);
+int rename(const char *from, const char *to);
+int snprintf(char *to, size_t size, const char *format, ...);
+int dprintf(int file, const char *format, ...);
+_Noreturn void exit(int status);
+
+/* The status of trouble that is no answer of the library's: above all its numbers. */
+enum { TROUBLE = 100, OWNER_ALONE = 0600, LONGEST_PATH = 4096 };
+
+static _Noreturn void stop(const char *what, const char *trouble) {
+    dprintf(2, "csalgodes: %s: %s\n", what, trouble);
+    exit(TROUBLE);
+}
+
+/* How many bytes there are, up to the limit: more are not read. */
+static size_t load(const char *path, void *to, size_t limit) {
+    uint8_t *bytes = to;
+    size_t count = 0;
+    long some = 1;
+    int file = open(path, 0);
+    if (file < 0) stop(path, "cannot be opened");
+    while (count < limit && some > 0) {
+        some = read(file, bytes + count, limit - count);
+        if (some < 0) stop(path, "cannot be read");
+        count += (size_t)some;
+    }
+    close(file);
+    return count;
+}
+
+static void write_all(const char *path, const uint8_t *bytes, size_t count) {
+    int file = creat(path, OWNER_ALONE);
+    if (file < 0) stop(path, "cannot be made");
+    while (count > 0) {
+        long some = write(file, bytes, count);
+        if (some <= 0) stop(path, "cannot be written");
+        bytes += some;
+        count -= (size_t)some;
+    }
+    if (close(file) != 0) stop(path, "cannot be written");
+}
+
+/* Written beside it and renamed, so that the file is replaced whole or not at all. */
+static void save(const char *path, const uint8_t *bytes, size_t count) {
+    char beside[LONGEST_PATH];
+    int size = snprintf(beside, sizeof beside, "%s.new", path);
+    if (size < 0 || size >= LONGEST_PATH) stop(path, "is too long a name");
+    write_all(beside, bytes, count);
+    if (rename(beside, path) != 0) stop(path, "cannot be replaced");
+}
+
+#endif
