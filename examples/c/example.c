@@ -1,0 +1,82 @@
+/*
+ * Csalgodes from C: cuts a secret for seven keepers, loses one letter, takes another from a liar, and
+ * joins. Then too many letters are lost, and the join refuses.
+ *
+ *     gcc -I target/library examples/c/example.c target/library/libcsalgodes.a -o example
+ */
+#include <stdio.h>
+#include <string.h>
+#include <sys/random.h>
+
+#include "csalgodes.h"
+
+enum { T = 2, F = 1, N = 7, STAMP = 1, LENGTH = 32, WORDS = LENGTH * T, SLOT = 2048, TRAY = N * SLOT };
+
+static uint8_t *slot(uint8_t *tray, int keeper) {
+    return tray + (keeper - 1) * SLOT;
+}
+
+/* 65535 is 255 times 257. Below it each remainder is as likely as any other; it is drawn again. */
+static int random_words(uint16_t *words, size_t count) {
+    for (size_t i = 0; i < count; i++) {
+        uint16_t draw;
+        do {
+            if (getentropy(&draw, sizeof draw) != 0) return 0;
+        } while (draw == 65535);
+        words[i] = draw % 257;
+    }
+    return 1;
+}
+
+/* Cuts a new secret, with words of its own: random words are used once. */
+static int cut_new(uint8_t *secret, uint8_t *tray) {
+    uint16_t words[WORDS];
+    if (getentropy(secret, LENGTH) != 0 || !random_words(words, WORDS)) {
+        fprintf(stderr, "the operating system gives no random bytes\n");
+        return 0;
+    }
+    uint32_t number = cs_cut(T, F, N, STAMP, secret, LENGTH, words, WORDS, tray, TRAY);
+    if (number != 0) fprintf(stderr, "cut: number %u\n", number);
+    return number == 0;
+}
+
+/* Joins, and says what was found. Whether the secret was written: a refusal leaves the room alone. */
+static int join_and_say(const uint8_t *tray, uint8_t *room) {
+    cs_join_result found = cs_join(T, F, N, STAMP, LENGTH, tray, TRAY, room, LENGTH);
+    printf("join: number %u, usable %u, need %u\n", found.number, found.usable, found.need);
+    switch (found.number) {
+    case 0: break;
+    case 6: printf("refused: too few letters, more keepers must answer\n"); return 0;
+    default: printf("refused: csalgodes.h says why\n"); return 0;
+    }
+    printf("agree:");
+    for (int keeper = 1; keeper <= N; keeper++) {
+        if (found.set >> (keeper - 1) & 1) printf(" %d", keeper);
+    }
+    printf("\n");
+    return 1;
+}
+
+int main(void) {
+    static uint8_t tray[TRAY], other_tray[TRAY];
+    uint8_t secret[LENGTH], other_secret[LENGTH], room[LENGTH];
+    if (!cut_new(secret, tray) || !cut_new(other_secret, other_tray)) return 1;
+    printf("cut: %d bytes into %d letters\n", LENGTH, N);
+
+    /* Keeper 3 lies with a letter of another cut, which every check takes for good. */
+    memcpy(slot(tray, 3), slot(other_tray, 3), SLOT);
+    memset(slot(tray, 5), 0, SLOT);
+    if (!join_and_say(tray, room) || memcmp(room, secret, LENGTH) != 0) {
+        fprintf(stderr, "the secret did not come back\n");
+        return 1;
+    }
+    printf("the secret came back\n");
+
+    static const int silent[] = {1, 2, 4};
+    for (int i = 0; i < 3; i++) memset(slot(tray, silent[i]), 0, SLOT);
+    if (join_and_say(tray, room)) {
+        fprintf(stderr, "three letters were joined\n");
+        return 1;
+    }
+    return 0;
+}

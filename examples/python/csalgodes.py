@@ -1,0 +1,72 @@
+"""Csalgodes for Python: the calls that cut and join, with bytes in and out."""
+
+from array import array
+from collections import namedtuple
+from ctypes import CDLL, POINTER, Structure, c_char_p, c_size_t, c_uint8, c_uint16, c_uint32
+
+SLOT = 2048
+Order = namedtuple("Order", "t f n")
+
+
+class Found(Structure):
+    """What a join found. csalgodes.h has the meaning of each number."""
+
+    _fields_ = [(name, c_uint32) for name in ("number", "usable", "need", "set")]
+
+    def keepers(self):
+        """The keepers that match."""
+        return [keeper for keeper in range(1, 17) if self.set >> (keeper - 1) & 1]
+
+    def __str__(self):
+        return f"number {self.number}, usable {self.usable}, need {self.need}"
+
+
+class Refused(Exception):
+    """Has the number of the refusal; its text also says what a join found."""
+
+    def __init__(self, number, text):
+        super().__init__(text)
+        self.number = number
+
+
+_read = [c_char_p, c_size_t]
+_written = [POINTER(c_uint8), c_size_t]
+_words = [POINTER(c_uint16), c_size_t]
+
+_library = CDLL("libcsalgodes.so")
+_library.cs_cut.argtypes = [c_uint32] * 4 + _read + _words + _written
+_library.cs_cut.restype = c_uint32
+_library.cs_join.argtypes = [c_uint32] * 5 + _read + _written
+_library.cs_join.restype = Found
+
+
+def _numbers(*numbers):
+    # ctypes would drop the high bits of a number that is too large; an array refuses it
+    return array("I", numbers)
+
+
+def _lent(memory, kind):
+    return (kind * len(memory)).from_buffer(memory), len(memory)
+
+
+def cut(order, stamp, secret, random):
+    """The tray of a secret, cut with t random words a byte, each 0..256."""
+    numbers = _numbers(*order, stamp)
+    words = array("H", random)
+    tray = bytearray(order.n * SLOT)
+    number = _library.cs_cut(
+        *numbers, bytes(secret), len(secret), *_lent(words, c_uint16), *_lent(tray, c_uint8)
+    )
+    if number != 0:
+        raise Refused(number, f"number {number}")
+    return tray
+
+
+def join(order, stamp, length, tray):
+    """The secret, and what the join found."""
+    numbers = _numbers(*order, stamp, length)
+    room = bytearray(length)
+    found = _library.cs_join(*numbers, bytes(tray), len(tray), *_lent(room, c_uint8))
+    if found.number != 0:
+        raise Refused(found.number, str(found))
+    return bytes(room), found

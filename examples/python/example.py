@@ -1,0 +1,63 @@
+"""Csalgodes from Python: cuts a secret for seven keepers, loses one letter, takes another from a liar,
+and joins. Then too many letters are lost, and the join refuses.
+
+    LD_LIBRARY_PATH=target/library python3 examples/python/example.py
+"""
+
+import secrets
+import sys
+
+from csalgodes import SLOT, Order, Refused, cut, join
+
+ORDER = Order(t=2, f=1, n=7)
+STAMP = 1
+LENGTH = 32
+
+
+def slot(keeper):
+    return slice((keeper - 1) * SLOT, keeper * SLOT)
+
+
+def cut_new():
+    """A new secret and its tray, cut with words of its own: random words are used once."""
+    secret = secrets.token_bytes(LENGTH)
+    # randbelow draws again rather than favour some words
+    words = [secrets.randbelow(257) for _ in range(LENGTH * ORDER.t)]
+    return secret, cut(ORDER, STAMP, secret, words)
+
+
+def join_and_say(tray):
+    """The secret, or None if the join was refused."""
+    try:
+        secret, found = join(ORDER, STAMP, LENGTH, tray)
+    except Refused as refused:
+        print("join:", refused)
+        if refused.number == 6:
+            print("refused: too few letters, more keepers must answer")
+        else:
+            print("refused: csalgodes.h says why")
+        return None
+    print("join:", found)
+    print("agree:", *found.keepers())
+    return secret
+
+
+def main():
+    secret, tray = cut_new()
+    _, other_tray = cut_new()
+    print(f"cut: {LENGTH} bytes into {ORDER.n} letters")
+
+    # Keeper 3 lies with a letter of another cut, which every check takes for good.
+    tray[slot(3)] = other_tray[slot(3)]
+    tray[slot(5)] = bytes(SLOT)
+    if join_and_say(tray) != secret:
+        sys.exit("the secret did not come back")
+    print("the secret came back")
+
+    for silent in (1, 2, 4):
+        tray[slot(silent)] = bytes(SLOT)
+    if join_and_say(tray) is not None:
+        sys.exit("three letters were joined")
+
+
+main()

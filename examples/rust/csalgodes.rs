@@ -1,0 +1,88 @@
+//! Csalgodes for Rust: the calls that cut and join, with slices in and out.
+//!
+//! A slice is there and is never NULL, and one that may be written overlaps no other. That is all
+//! the C header asks of a caller, so both calls are safe whatever they are given.
+
+use std::fmt;
+
+pub const SLOT: usize = 2048;
+
+#[derive(Clone, Copy)]
+pub struct Order {
+    pub t: u32,
+    pub f: u32,
+    pub n: u32,
+}
+
+/// What a join found. `csalgodes.h` has the meaning of each number.
+#[repr(C)]
+pub struct Found {
+    pub number: u32,
+    pub usable: u32,
+    pub need: u32,
+    pub set: u32,
+}
+
+impl Found {
+    /// The keepers that match.
+    pub fn keepers(&self) -> Vec<u32> {
+        (1..=16).filter(|keeper| self.set >> (keeper - 1) & 1 == 1).collect()
+    }
+}
+
+impl fmt::Display for Found {
+    fn fmt(&self, to: &mut fmt::Formatter) -> fmt::Result {
+        write!(to, "number {}, usable {}, need {}", self.number, self.usable, self.need)
+    }
+}
+
+#[link(name = "csalgodes", kind = "static")]
+#[rustfmt::skip]
+extern "C" {
+    fn cs_cut(
+        t: u32, f: u32, n: u32, stamp: u32,
+        secret: *const u8, secret_length: usize,
+        random: *const u16, random_count: usize,
+        tray: *mut u8, tray_length: usize,
+    ) -> u32;
+
+    fn cs_join(
+        t: u32, f: u32, n: u32, stamp: u32, length: u32,
+        tray: *const u8, tray_length: usize,
+        room: *mut u8, room_length: usize,
+    ) -> Found;
+}
+
+/// Cuts a secret into the tray, or gives the number of the refusal.
+pub fn cut(
+    Order { t, f, n }: Order,
+    stamp: u32,
+    secret: &[u8],
+    random: &[u16],
+    tray: &mut [u8],
+) -> Result<(), u32> {
+    let (bytes, length) = (secret.as_ptr(), secret.len());
+    let (words, count) = (random.as_ptr(), random.len());
+    let (slots, size) = (tray.as_mut_ptr(), tray.len());
+    match unsafe { cs_cut(t, f, n, stamp, bytes, length, words, count, slots, size) } {
+        0 => Ok(()),
+        number => Err(number),
+    }
+}
+
+/// Joins a secret as long as the room, and writes it there. A refusal leaves the room as it was.
+pub fn join(
+    Order { t, f, n }: Order,
+    stamp: u32,
+    tray: &[u8],
+    room: &mut [u8],
+) -> Result<Found, Found> {
+    // any length above 952 is refused alike
+    let length = u32::try_from(room.len()).unwrap_or(u32::MAX);
+    let (slots, size) = (tray.as_ptr(), tray.len());
+    let (to, space) = (room.as_mut_ptr(), room.len());
+    match unsafe { cs_join(t, f, n, stamp, length, slots, size, to, space) } {
+        found if found.number == 0 => Ok(found),
+        refusal => Err(refusal),
+    }
+}

@@ -1,0 +1,86 @@
+//! Csalgodes from Rust: cuts a secret for seven keepers, loses one letter, takes another from a
+//! liar, and joins. Then too many letters are lost, and the join refuses.
+//!
+//!     rustc --edition 2021 -L target/library examples/rust/example.rs
+
+mod csalgodes;
+
+use csalgodes::{cut, join, Order, SLOT};
+use std::{error::Error, fs::File, io, io::Read, ops::Range};
+
+const ORDER: Order = Order { t: 2, f: 1, n: 7 };
+const STAMP: u32 = 1;
+const LENGTH: usize = 32;
+const WORDS: usize = LENGTH * ORDER.t as usize;
+const TRAY: usize = ORDER.n as usize * SLOT;
+
+fn slot(keeper: usize) -> Range<usize> {
+    (keeper - 1) * SLOT..keeper * SLOT
+}
+
+fn random_bytes<const COUNT: usize>() -> io::Result<[u8; COUNT]> {
+    let mut bytes = [0; COUNT];
+    File::open("/dev/urandom")?.read_exact(&mut bytes)?;
+    Ok(bytes)
+}
+
+/// 65535 is 255 times 257. Below it each remainder is as likely as any other; it is drawn again.
+fn random_word() -> io::Result<u16> {
+    loop {
+        let draw = u16::from_ne_bytes(random_bytes()?);
+        if draw != 65535 {
+            return Ok(draw % 257);
+        }
+    }
+}
+
+/// Cuts a new secret, with words of its own: random words are used once.
+fn cut_new(tray: &mut [u8]) -> Result<[u8; LENGTH], Box<dyn Error>> {
+    let secret = random_bytes()?;
+    let words = (0..WORDS).map(|_| random_word()).collect::<Result<Vec<_>, _>>()?;
+    cut(ORDER, STAMP, &secret, &words, tray).map_err(|number| format!("cut: number {number}"))?;
+    Ok(secret)
+}
+
+/// Joins, and says what was found. None if the join was refused.
+fn join_and_say(tray: &[u8]) -> Option<[u8; LENGTH]> {
+    let mut room = [0; LENGTH];
+    match join(ORDER, STAMP, tray, &mut room) {
+        Ok(found) => {
+            let keepers: Vec<_> = found.keepers().iter().map(u32::to_string).collect();
+            println!("join: {found}\nagree: {}", keepers.join(" "));
+            Some(room)
+        }
+        Err(found) => {
+            let why = match found.number {
+                6 => "too few letters, more keepers must answer",
+                _ => "csalgodes.h says why",
+            };
+            println!("join: {found}\nrefused: {why}");
+            None
+        }
+    }
+}
+
+fn main() -> Result<(), Box<dyn Error>> {
+    let (mut tray, mut other_tray) = ([0; TRAY], [0; TRAY]);
+    let secret = cut_new(&mut tray)?;
+    cut_new(&mut other_tray)?;
+    println!("cut: {LENGTH} bytes into {} letters", ORDER.n);
+
+    // Keeper 3 lies with a letter of another cut, which every check takes for good.
+    tray[slot(3)].copy_from_slice(&other_tray[slot(3)]);
+    tray[slot(5)].fill(0);
+    if join_and_say(&tray) != Some(secret) {
+        return Err("the secret did not come back".into());
+    }
+    println!("the secret came back");
+
+    for silent in [1, 2, 4] {
+        tray[slot(silent)].fill(0);
+    }
+    match join_and_say(&tray) {
+        None => Ok(()),
+        Some(_) => Err("three letters were joined".into()),
+    }
+}
