@@ -16,4 +16,3 @@ pub mod CutPolynomials
 pub mod HeldTray
 pub mod JoinAnswers
 pub mod SameShares
-pub mod ReportSame

@@ -2,4 +2,3 @@ pub mod Desk
 pub mod StoreLaws
 pub mod GoodHere
 pub mod Calls
-pub mod Same

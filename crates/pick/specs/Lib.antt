@@ -1,5 +1,4 @@
 pub mod Keys
 pub mod Pick
 pub mod RefusalLaws
-pub mod Same
 pub mod PickedLaws
