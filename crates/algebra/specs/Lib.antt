@@ -3,6 +3,7 @@ pub mod Combine
 pub mod Divide
 pub mod Factor
 pub mod Field
+pub mod Fraction
 pub mod Interpolate
 pub mod Lagrange
 pub mod OnePolynomial

@@ -3,6 +3,7 @@
 use Prim.Native.Nat.{ℕ, _<_}
 use mathlib.Core.Path.{_≡_, sym, ap, _∙_}
 use Rattle.algebra.specs.Field.{Ops, IsField}
+use Rattle.algebra.specs.Fraction.{mul-four}
 use Rattle.algebra.specs.Ring.{ring, minus, add-comm, zero-add, mul-zero, zero-mul, mul-back, sub-not-zero}
 
 abbrev pub ratio : Ops → ℕ → ℕ → ℕ → ℕ
@@ -44,9 +45,6 @@ module _ {O : Ops} (F : IsField O) where
   fractions d e k k′ u v hd he hs =
       cc (F .mul-one (u ⊗ v) (F .mul-lt u v), expand d e k k′ u v, F .mul-one (k ⊗ u) (F .mul-lt k u), F .mul-one (k′ ⊗ v) (F .mul-lt k′ v))
 
-  left : (r s u v : ℕ) → r ⊗ u ⊗ (s ⊗ v) ≡ r ⊗ s ⊗ (u ⊗ v)
-  left r s u v = simp (ring, F)
-
   right : (r s k k′ u v : ℕ) → s ⊗ k ⊗ (r ⊗ u) ⊕ r ⊗ k′ ⊗ (s ⊗ v) ≡ r ⊗ s ⊗ (k ⊗ u ⊕ k′ ⊗ v)
   right r s k k′ u v = simp (ring, F)
 
@@ -60,4 +58,4 @@ module _ {O : Ops} (F : IsField O) where
       let v = inv (b ⊖ c) in
       let e = fractions (b ⊖ a) (b ⊖ c) k k′ u v (F .mul-inv (b ⊖ a) (F .sub-lt b a) (sub-not-zero F b a hb ha nba))
       (F .mul-inv (b ⊖ c) (F .sub-lt b c) (sub-not-zero F b c hb hc nbc)) (ratio-two a c b ha hc nac) in
-      left (x ⊖ a) (x ⊖ c) u v ∙ ap (λ (z : ℕ). (x ⊖ a) ⊗ (x ⊖ c) ⊗ z) e ∙ sym (right (x ⊖ a) (x ⊖ c) k k′ u v)
+      mul-four F (x ⊖ a) u (x ⊖ c) v ∙ ap (λ (z : ℕ). (x ⊖ a) ⊗ (x ⊖ c) ⊗ z) e ∙ sym (right (x ⊖ a) (x ⊖ c) k k′ u v)

@@ -1,3 +1,4 @@
+pub mod Fraction
 pub mod Laws
 pub mod Modulo
 pub mod Table

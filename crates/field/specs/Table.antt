@@ -3,6 +3,7 @@
 use Prim.Native.Nat.{ℕ, zero, suc, _*_, _%_, _<_}
 use mathlib.Core.Path.{_≡_, refl}
 use mathlib.Core.Bool.{Bool, true, _&&_, and-eq-true-iff}
+use native.Mathlib.Omega.{arith}
 use lib.Dec.{ltb, eqb}
 use lib.ListN.{getD}
 use borrow.Author.Tests.{ltb-true, eqb-true}
@@ -27,6 +28,9 @@ suited a h = and-eq-true-iff _ _ .0 (every-at suits reciprocals tested a h)
 
 pub entry-lt : (a : ℕ) → a < 257 → getD reciprocals a 0 < 257
 entry-lt a h = ltb-true _ _ (suited a h .0)
+
+pub entry-zero : getD reciprocals 0 0 ≡ 0
+entry-zero = eqb-true _ _ (suited 0 (omega arith) .1)
 
 pub product-one : (a : ℕ) → a < 257 → (a ≡ 0 → ⊥) → a * getD reciprocals a 0 % 257 ≡ 1
 product-one zero h other = absurd (other refl)

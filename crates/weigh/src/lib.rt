@@ -3,7 +3,6 @@ ghost use mathlib.Core.Path.{_≡_};
 ghost use Prim.Native.Nat.{_-_, _+_, _*_, _%_};
 ghost use lib.ListN.{length, getD};
 ghost use Rattle.lists.specs.Listed.{listed};
-ghost use Rattle.algebra.specs.Ratio.{ratio};
 ghost use Rattle.algebra.specs.Factor.{factor};
 ghost use Rattle.field.specs.Modulo.{mod257};
 ghost use Rattle.weigh.specs.Weigh.{carried, rowWord, Keepers, Carriage, Addition};
@@ -12,26 +11,22 @@ use field::mul;
 use field::reciprocal;
 use field::sub;
 
-fn ratio_of(b: u16, a: u16, x: u16) -> u16
-    ensures { λ r. ⌜ r ≡ ratio mod257 b a x ⌝ }
-{
-    mul(sub(x, b), reciprocal(sub(a, b)))
-}
-
-// The factor by which a word at the point a counts at the place x.
+// The factor by which a word at the point a counts at the place x, as one fraction: its parts are multiplied first, and one reciprocal is read.
 pub fn factor_of(points: &[u16], a: u16, x: u16) -> u16
     ensures { λ r. ⌜ r ≡ factor mod257 (now (points .entry)) a x ⌝ }
 {
-    let mut product: u16 = 1;
+    let mut above: u16 = 1;
+    let mut below: u16 = 1;
     let mut i = 0;
     while i < points.len() {
         let b = points[i];
         if a != b {
-            product = mul(ratio_of(b, a, x), product);
+            above = mul(sub(x, b), above);
+            below = mul(sub(a, b), below);
         }
         i += 1;
     }
-    product
+    mul(above, reciprocal(below))
 }
 
 // The word at x on the polynomial through the points' words, keeper k + 1's being word k.
