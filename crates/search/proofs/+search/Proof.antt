@@ -1,14 +1,15 @@
 -- A keeper that is not of the set is passed by. One of the set is included, and where nothing is found with it, it is skipped. The measure is the keepers left.
 -- Assumes nothing.
-use Prim.Native.Nat.{ℕ, _+_, _-_, _<_}
+use Prim.Native.Nat.{ℕ, _+_, _-_}
 use mathlib.Core.Path.{sym, _∙_}
 use native.Mathlib.Omega.{arith}
 use borrow.Author.Needs.{needs}
 use borrow.Author.Tests.{not-true, not-false}
 use borrow.Fn.Kinds.{In}
-use borrow.Fn.PlainCycle.{Measures, is, falls, and}
+use borrow.Fn.PlainCycle.{Measures}
 use Rattle.lists.specs.KeeperSet.{member}
 use Rattle.lists.specs.KeeperSetLaws.{joined-below}
+use Rattle.lists.specs.Recursion.{givenAt, askedBelow}
 use Rattle.field.specs.Modulo.{mod257}
 use Rattle.search.specs.Finds.{finds-some}
 use Rattle.search.specs.Search.{word, Sought}
@@ -27,13 +28,10 @@ abbrev μ-search : Measures 1 kinds.ps ℕ
 
 module _ (t : ℕ) where
   abbrev given : In 1 kinds.ps
-  given = and 1 kinds.ps (is 1 kinds.ps μ-search t) reads.Pre
-
-  abbrev asked : In 1 kinds.ps
-  asked = and 1 kinds.ps (falls 1 kinds.ps _<_ μ-search t) reads.Pre
+  given = givenAt 1 kinds.ps μ-search reads.Pre t
 
   abbrev calls : lts.Claims
-  calls = (tried-reads.Asked, tried-reads.Learnt, has-reads.Asked, has-reads.Learnt, asked, reads.Post, alone-reads.Asked, alone-reads.Learnt)
+  calls = (tried-reads.Asked, tried-reads.Learnt, has-reads.Asked, has-reads.Learnt, askedBelow 1 kinds.ps μ-search reads.Pre t, reads.Post, alone-reads.Asked, alone-reads.Learnt)
 
   tried-requires : lts.Need-tried-requires calls given reads.Post
   tried-requires c κs = search needs
