@@ -25,18 +25,21 @@ unfolding digits
 digits-same zero n h = rw (one-place 0 n (omega arith), one-place 1 n (omega arith))
 digits-same (suc k) n h = cc (digits-same k (n / 10) (omega arith))
 
--- what holds of both lists holds of the one picked
-either : (P : List ℕ → Type 0) (b : Bool) (xs ys : List ℕ) → P xs → P ys → P (cond b xs ys)
-either P true xs ys px py = px
-either P false xs ys px py = py
+-- what holds of an only digit, and of a last one behind the others, holds of the digits
+by-digits : (P : List ℕ → Type 0) (more n : ℕ) → P ((48 + n) ∷ []) → P (digits more (n / 10) ++ ((48 + n % 10) ∷ [])) → P (digits (suc more) n)
+unfolding digits
+by-digits P more n only last = picked (ltb n 10)
+  where
+    picked : (b : Bool) → P (cond b ((48 + n) ∷ []) (digits more (n / 10) ++ ((48 + n % 10) ∷ [])))
+    picked true = only
+    picked false = last
 
 digits-short : (more k n : ℕ) → n < 10 ^ suc k → length (digits more n) ≤ suc k
 unfolding digits
 digits-short zero k n h = omega arith
 digits-short (suc more) zero n h = rw (one-place more n (omega arith)) (omega arith)
 digits-short (suc more) (suc k) n h =
-    either (λ xs. length xs ≤ suc (suc k)) (ltb n 10) ((48 + n) ∷ []) (digits more (n / 10) ++ ((48 + n % 10) ∷ [])) (omega arith)
-    (rw length-append (omega (arith, digits-short more k (n / 10) (omega arith))))
+    by-digits (λ xs. length xs ≤ suc (suc k)) more n (omega arith) (rw length-append (omega (arith, digits-short more k (n / 10) (omega arith))))
 
 pub decimal-one : (n : ℕ) → n < 10 → decimal n ≡ (48 + n) ∷ []
 decimal-one n h = one-place 19 n h
@@ -49,7 +52,4 @@ pub length-decimal : (k n : ℕ) → n < 10 ^ suc k → length (decimal n) ≤ s
 length-decimal k n h = digits-short 20 k n h
 
 pub decimal-some : (n : ℕ) → 1 ≤ length (decimal n)
-unfolding digits
-decimal-some n =
-    either (λ xs. 1 ≤ length xs) (ltb n 10) ((48 + n) ∷ []) (digits 19 (n / 10) ++ ((48 + n % 10) ∷ [])) (omega arith)
-    (rw length-append (omega arith))
+decimal-some n = by-digits (λ xs. 1 ≤ length xs) 19 n (omega arith) (rw length-append (omega arith))

@@ -20,6 +20,7 @@ pub mod AllTo
 pub mod AllToLaws
 pub mod KeeperSet
 pub mod KeeperSetLaws
+pub mod Recursion
 pub mod Rising
 pub mod SameTest
 pub mod SameBytes

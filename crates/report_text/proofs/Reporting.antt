@@ -20,18 +20,25 @@ use Rattle.report_text.specs.Report.{orderIn, trayIn, ReportOf, short, u
 pub all-of : (xs : List ℕ) (n : ℕ) → take (length xs - n) (drop n xs) ≡ drop n xs
 all-of xs n = take-all (length xs - n) (drop n xs) (rw length-drop (omega arith))
 
-module _ (input : List ℕ) {before after : List ℕ} {count : ℕ} where
+-- what was picked, of the order and the tray that the input has
+pub record PickedOf (input : List ℕ) (order : Order) (tray : List ℕ) (p : Picked) : Type 0 where
+  pub whole : 3 ≤ length input
+  pub of : order ≡ orderIn input
+  pub in-it : tray ≡ trayIn input
+  pub pick : PickDone order tray p
+
+module _ {input before after : List ℕ} {count : ℕ} where
   reported : {bytes : List ℕ} → ReportOf input bytes → Written before 0 bytes after count → Reported input before count after
   reported {bytes} right w = record { bytes = bytes; right = right; counted = w .place ∙ zero-add (length bytes); written = rw zero-add at (w .laid) }
 
   pub short-reported : length input < 3 → Written before 0 (answerLine 4) after count → Reported input before count after
   short-reported few w = reported (short few) w
 
-  module _ {order : Order} {tray : List ℕ} {p : Picked} (whole : 3 ≤ length input) (of : order ≡ orderIn input) (in-it : tray ≡ trayIn input) (pick : PickDone order tray p) where
+  module _ {order : Order} {tray : List ℕ} {p : Picked} (c : PickedOf input order tray p) where
     pub unpicked-reported : (p .number ≡ 0 → ⊥) → Written before 0 (answerLine (p .number)) after count → Reported input before count after
-    unpicked-reported other w = reported (unpicked (p .number) whole (rw (of, in-it) at (none-picked pick other)) other) w
+    unpicked-reported other w = reported (unpicked (p .number) (c .whole) (rw (c .of, c .in-it) at (none-picked (c .pick) other)) other) w
 
     pub joined-reported : p .number ≡ 0 → JoinedReported order (p .stamp) (p .length) tray before count after → Reported input before count after
     joined-reported e j =
-        reported (joined (p .stamp) (p .length) (j .result) (j .left) whole (rw (of, in-it) at (one-picked pick e)) (rw (of, in-it) at (j .done)))
-        (rw (of, in-it) at (j .written))
+        reported (joined (p .stamp) (p .length) (j .result) (j .left) (c .whole) (rw (c .of, c .in-it) at (one-picked (c .pick) e)) (rw (c .of, c .in-it) at (j .done)))
+        (rw (c .of, c .in-it) at (j .written))

@@ -1,5 +1,6 @@
 pub mod Base
 pub mod Carried
+pub mod Finds
 pub mod Search
 pub mod SearchLaws
 pub mod TriedLaws

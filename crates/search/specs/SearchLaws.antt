@@ -18,47 +18,42 @@ use Rattle.lists.specs.Member.{In}
 use Rattle.lists.specs.Rising.{count-next, count-behind}
 use Rattle.algebra.specs.Field.{Ops}
 use Rattle.algebra.specs.Poly.{eval, Degree}
+use Rattle.search.specs.Finds.{finds-none, finds-less}
 use Rattle.search.specs.Search.{matched, Finds, Through, OnTrack, Searched, Narrows, Sought}
 
-module _ (O : Ops) (t n need : ℕ) (among : ℕ → Bool) (y : ℕ → ℕ) where
-  -- who hopes for less finds as much
-  finds-less : (Hope Less : List ℕ → Type 0) (set : ℕ) → ((p : List ℕ) → Less p → Hope p) → Finds O t n need among y Hope set → Finds O t n need among y Less set
-  finds-less Hope Less set h f = record { sound = f .sound; complete = λ p d e l. f .complete p d e (h p l) }
+-- a polynomial on track
+module _ {O : Ops} {n need : ℕ} {among : ℕ → Bool} {y : ℕ → ℕ} {base next skips : ℕ} {p : List ℕ} (k : OnTrack O n need among y base next skips p) where
+  -- the base is whole: it goes through its words
+  track-through : Through O n (member base) y p
+  track-through x m e =
+      let h = member-passes (matched O among y p) next x (from-in 1 n x m .0) (rw (k .so-far) at e) in
+      eqb-true (eval O p x) (y x) (and-eq-true-iff (among x) (eqb (eval O p x) (y x)) .0 h .1)
 
-  abbrev Track : ℕ → ℕ → ℕ → List ℕ → Type 0
-  Track base next skips = OnTrack O n need among y base next skips
+  ones-track : ones base ≡ count (matched O among y p) (from 1 next)
+  ones-track = ap ones (k .so-far) ∙ ones-keeper-set (matched O among y p) next
 
-  module _ (base next skips : ℕ) where
-    -- the base is whole: a polynomial on track goes through its words
-    track-through : (p : List ℕ) → Track base next skips p → Through O n (member base) y p
-    track-through p k x m e =
-        let h = member-passes (matched O among y p) next x (from-in 1 n x m .0) (rw (k .so-far) at e) in
-        eqb-true (eval O p x) (y x) (and-eq-true-iff (among x) (eqb (eval O p x) (y x)) .0 h .1)
+  -- a keeper that is not of the set
+  track-outside : among (next + 1) ≡ false → OnTrack O n need among y base (next + 1) skips p
+  track-outside e = record {
+    so-far = k .so-far ∙ sym (keeper-set-skipped (matched O among y p) next (ap (λ (b : Bool). b && eqb (eval O p (next + 1)) (y (next + 1))) e));
+    spare = omega (arith, k .spare, count-next among next false e);
+  }
 
-    -- a keeper that is not of the set
-    track-outside : (p : List ℕ) → among (next + 1) ≡ false → Track base next skips p → Track base (next + 1) skips p
-    track-outside p e k = record {
-      so-far = k .so-far ∙ sym (keeper-set-skipped (matched O among y p) next (ap (λ (b : Bool). b && eqb (eval O p (next + 1)) (y (next + 1))) e));
-      spare = omega (arith, k .spare, count-next among next false e);
-    }
-
-    track-included : (p : List ℕ) → base < 2 ^ next → among (next + 1) ≡ true → matched O among y p (next + 1) ≡ true → Track base next skips p → Track (base + 2 ^ next) (next + 1) skips p
-    track-included p l e h k = record {
+  -- one of the set: it is included where it matches, else skipped, and one may be
+  module _ (e : among (next + 1) ≡ true) where
+    track-included : base < 2 ^ next → matched O among y p (next + 1) ≡ true → OnTrack O n need among y (base + 2 ^ next) (next + 1) skips p
+    track-included l h = record {
       so-far = ap (λ (s : ℕ). s + 2 ^ next) (k .so-far) ∙ sym (keeper-set-joined (matched O among y p) next h);
       spare = omega (arith, k .spare, count-next among next true e, ones-joined base next l);
     }
 
-    ones-track : (p : List ℕ) → Track base next skips p → ones base ≡ count (matched O among y p) (from 1 next)
-    ones-track p k = ap ones (k .so-far) ∙ ones-keeper-set (matched O among y p) next
-
-    -- a keeper of the set that does not match: it is skipped, and one may be
-    module _ (p : List ℕ) (l : next < n) (e : among (next + 1) ≡ true) (h : matched O among y p (next + 1) ≡ false) (k : Track base next skips p) where
-      track-spare : need ≤ count (matched O among y p) (from 1 n) → 1 ≤ skips
-      track-spare enough =
+    module _ (h : matched O among y p (next + 1) ≡ false) where
+      track-spare : next < n → need ≤ count (matched O among y p) (from 1 n) → 1 ≤ skips
+      track-spare l enough =
           let behind = count-behind (matched O among y p) among (next + 1) n (omega arith) (λ x g. and-eq-true-iff (among x) (eqb (eval O p x) (y x)) .0 g .0) in
-          omega (arith, k .spare, ones-track p k, count-next among next true e, count-next (matched O among y p) next false h)
+          omega (arith, k .spare, ones-track, count-next among next true e, count-next (matched O among y p) next false h)
 
-      track-skipped : 1 ≤ skips → Track base (next + 1) (skips - 1) p
+      track-skipped : 1 ≤ skips → OnTrack O n need among y base (next + 1) (skips - 1) p
       track-skipped s = record {
         so-far = k .so-far ∙ sym (keeper-set-skipped (matched O among y p) next h);
         spare = omega (arith, k .spare, count-next among next true e);
@@ -84,49 +79,45 @@ module _ {t need base lack next : ℕ} (s : Sought t need base lack next) (l : n
 -- what each way of the search comes to
 module _ {O : Ops} {t n need : ℕ} {among : ℕ → Bool} {y : ℕ → ℕ} {base next skips : ℕ} where
   pub search-done : {set : ℕ} → Finds O t n need among y (Through O n (member base) y) set → Searched O t n need among y base next skips set
-  search-done {set} = finds-less O t n need among y (Through O n (member base) y) (OnTrack O n need among y base next skips) set (track-through O t n need among y base next skips)
+  search-done = finds-less (λ p d h k. track-through k)
 
   pub search-past : next ≡ n → ones base < need → Searched O t n need among y base next skips 0
-  search-past e l = record {
-    sound = λ other. absurd (other refl);
-    complete = λ p d h k z. let s = rw e at (ones-track O t n need among y base next skips p k) in omega arith;
-  }
+  search-past e l = finds-none (λ p d h k. let s : ones base ≡ count (matched O among y p) (from 1 n) = rw (← e) (ones-track k) in omega arith)
 
   pub search-outside : {set : ℕ} → among (next + 1) ≡ false → Searched O t n need among y base (next + 1) skips set → Searched O t n need among y base next skips set
-  search-outside {set} e =
-      finds-less O t n need among y (OnTrack O n need among y base (next + 1) skips) (OnTrack O n need among y base next skips) set (λ p. track-outside O t n need among y base next skips p e)
+  search-outside e = finds-less (λ p d h k. track-outside k e)
 
-  module _ (one : ℕ) {found : ℕ} (F : Searched O t n need among y (base + one) (next + 1) skips found) where
-    pub search-found : (found ≡ 0 → ⊥) → Searched O t n need among y base next skips found
-    search-found other = record { sound = F .sound; complete = λ p d h k. other }
+-- the next keeper is of the set, and nothing was found with it in the base
+pub record Missed (O : Ops) (t n need : ℕ) (among : ℕ → Bool) (y : ℕ → ℕ) (base next skips : ℕ) : Type 0 where
+  pub within : next < n
+  pub before : base < 2 ^ next
+  pub of : among (next + 1) ≡ true
+  pub searched : Searched O t n need among y (base + 2 ^ next) (next + 1) skips 0
 
-    module _ (z : found ≡ 0) (q : one ≡ 2 ^ next) (l : next < n) (b : base < 2 ^ next) (e : among (next + 1) ≡ true) where
-      -- nothing was found with this keeper in the base, so what is on track does not match it
-      differs : (p : List ℕ) → Degree O t p → need ≤ count (matched O among y p) (from 1 n) → OnTrack O n need among y base next skips p → matched O among y p (next + 1) ≡ false
-      differs p d h k = other (matched O among y p (next + 1)) refl
-        where
-          other : (c : Bool) → matched O among y p (next + 1) ≡ c → c ≡ false
-          other true g = absurd (F .complete p d h (rw q (track-included O t n need among y base next skips p b e g k)) z)
-          other false g = refl
+module _ {O : Ops} {t n need : ℕ} {among : ℕ → Bool} {y : ℕ → ℕ} {base next skips : ℕ} (m : Missed O t n need among y base next skips) where
+  -- so what is on track does not match it, and one may be skipped
+  module _ (p : List ℕ) (d : Degree O t p) (h : need ≤ count (matched O among y p) (from 1 n)) (k : OnTrack O n need among y base next skips p) where
+    differs : matched O among y p (next + 1) ≡ false
+    differs = other (matched O among y p (next + 1)) refl
+      where
+        other : (c : Bool) → matched O among y p (next + 1) ≡ c → c ≡ false
+        other true g = absurd (m .searched .complete p d h (track-included k (m .of) (m .before) g) refl)
+        other false g = refl
 
-      pub search-stuck : skips ≡ 0 → Searched O t n need among y base next skips 0
-      search-stuck s = record {
-        sound = λ other. absurd (other refl);
-        complete = λ p d h k _. omega (arith, track-spare O t n need among y base next skips p l e (differs p d h k) k h);
-      }
+    spare : 1 ≤ skips
+    spare = track-spare k (m .of) differs (m .within) h
 
-      pub search-skipped : {set : ℕ} → Searched O t n need among y base (next + 1) (skips - 1) set → Searched O t n need among y base next skips set
-      search-skipped G = record {
-        sound = G .sound;
-        complete = λ p d h k. G .complete p d h (track-skipped O t n need among y base next skips p l e (differs p d h k) k (track-spare O t n need among y base next skips p l e (differs p d h k) k h));
-      }
+  pub search-stuck : skips ≡ 0 → Searched O t n need among y base next skips 0
+  search-stuck s = finds-none (λ p d h k. omega (arith, spare p d h k))
+
+  pub search-skipped : {set : ℕ} → Searched O t n need among y base (next + 1) (skips - 1) set → Searched O t n need among y base next skips set
+  search-skipped = finds-less (λ p d h k. track-skipped k (m .of) (differs p d h k) (spare p d h k))
 
 -- a search from the first keeper on, with as many to skip as there are past need
 pub search-whole : {O : Ops} {t n need : ℕ} {among : ℕ → Bool} {y : ℕ → ℕ} {skips set : ℕ} → count among (from 1 n) ≤ need + skips
     → Searched O t n need among y 0 0 skips set → Narrows O t n need among y set
 unfolding ones keeperSet
-search-whole {O} {t} {n} {need} {among} {y} {skips} {set} l =
-    finds-less O t n need among y (OnTrack O n need among y 0 0 skips) (λ p. Unit {0}) set (λ p _. record { so-far = refl; spare = omega arith })
+search-whole l = finds-less (λ p d h _. record { so-far = refl; spare = omega arith })
 
 -- words that are the same give the same
 pub narrows-same : {O : Ops} {t n need : ℕ} {among : ℕ → Bool} {y : ℕ → ℕ} (z : ℕ → ℕ) {set : ℕ} → ((x : ℕ) → In x (from 1 n) → y x ≡ z x)

@@ -10,7 +10,7 @@ put-answer-line-requires : tie.Need-put-answer-line-requires
 put-answer-line-requires c κs = search needs
 
 returns : tie.Need-returns
-returns c = short-reported _ (c .before .before .if1 .taken) (c .put-answer-line .ensures)
+returns c = short-reported (c .before .before .if1 .taken) (c .put-answer-line .ensures)
 
 shared-slice-read-t9 : tie.Need-shared-slice-read-t9
 shared-slice-read-t9 c = search needs

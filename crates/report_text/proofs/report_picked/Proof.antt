@@ -1,9 +1,11 @@
 -- `report_picked` meets its contract: by the pick's number there is only an answer, or the group picked is joined.
 -- Assumes nothing.
+use Prim.Native.Nat.{_-_}
 use native.Mathlib.Omega.{arith}
+use lib.ListN.{length, take, drop}
 use borrow.Author.Needs.{needs}
 use Rattle.report_text.specs.PickedLaws.{picked-joinable}
-use Rattle.report_text.proofs.Reporting.{unpicked-reported, joined-reported, all-of}
+use Rattle.report_text.proofs.Reporting.{PickedOf, unpicked-reported, joined-reported, all-of}
 use Rattle.report_text.proofs.report_picked.Statement.{statement}
 use Rattle.report_text.proofs.report_picked.Tie as tie
 
@@ -25,19 +27,20 @@ put-answer-line-requires c κs = search needs
 same-length : tie.Need-same-length
 same-length c = search needs
 
+-- the tray is all of the input that follows the order
+of-input : (c : tie.After-pick) → (let a = c .before .before .before .before .args in PickedOf (a .input .now) (a .o) (take (length (a .input .now) - 3) (drop 3 (a .input .now))) (c .pick .result))
+of-input c =
+    let a = c .before .before .before .before in
+    record { whole = a .pre .0; of = a .pre .1 .0; in-it = all-of (a .args .input .now) 3; pick = c .pick .ensures }
+
 returns : tie.Need-returns
 returns c =
     let line = c .before .before in
     let way = line .before .before in
-    let pick = way .before .before in
-    let start = pick .before .before .before .before in
-    unpicked-reported (start .args .input .now) (start .pre .0) (start .pre .1 .0) (all-of (start .args .input .now) 3) (pick .pick .ensures) (way .if1 .taken) (line .put-answer-line .ensures)
+    unpicked-reported (of-input (way .before .before)) (way .if1 .taken) (line .put-answer-line .ensures)
 
 report-joined-requires : tie.Need-report-joined-requires
-report-joined-requires c κs =
-    let way = c .before in
-    let pick = way .before .before in
-    (picked-joinable (pick .pick .ensures) (way .if1 .left), omega arith)
+report-joined-requires c κs = (picked-joinable (c .before .before .before .pick .ensures) (c .before .if1 .left), omega arith)
 
 same-length-2 : tie.Need-same-length-2
 same-length-2 c = search needs
@@ -46,9 +49,7 @@ returns-2 : tie.Need-returns-2
 returns-2 c =
     let join = c .before .before in
     let way = join .before .before in
-    let pick = way .before .before in
-    let start = pick .before .before .before .before in
-    joined-reported (start .args .input .now) (start .pre .0) (start .pre .1 .0) (all-of (start .args .input .now) 3) (pick .pick .ensures) (way .if1 .left) (join .report-joined .ensures)
+    joined-reported (of-input (way .before .before)) (way .if1 .left) (join .report-joined .ensures)
 
 pub report-picked-spec : {M : Type 1} → statement M
 report-picked-spec =

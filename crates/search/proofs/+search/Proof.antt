@@ -1,122 +1,136 @@
-use borrow.Author.Needs.{needs}
-use borrow.Author.Tests.{not-true, not-false}
+-- A keeper that is not of the set is passed by. One of the set is included, and where nothing is found with it, it is skipped. The measure is the keepers left.
+-- Assumes nothing.
+use Prim.Native.Nat.{ℕ, _+_, _-_}
 use mathlib.Core.Path.{sym, _∙_}
 use native.Mathlib.Omega.{arith}
-use Rattle.lists.specs.KeeperSetLaws.{joined-below}
-use Rattle.search.specs.SearchLaws.{search-done, search-past, search-outside, search-found, search-stuck, search-skipped, sought-past, sought-joined}
-use Prim.Native.Nat.{ℕ, _-_, _<_}
+use borrow.Author.Needs.{needs}
+use borrow.Author.Tests.{not-true, not-false}
 use borrow.Fn.Kinds.{In}
-use borrow.Fn.PlainCycle.{Measures, is, falls, and}
-use Rattle.search.proofs.search.Reads as search′
-use Rattle.search.proofs.search.Kinds as search-kinds
-use Rattle.search.proofs.+search.Lts-search as search-lts
+use borrow.Fn.PlainCycle.{Measures}
+use Rattle.lists.specs.KeeperSet.{member}
+use Rattle.lists.specs.KeeperSetLaws.{joined-below}
+use Rattle.lists.specs.Recursion.{givenAt, askedBelow}
+use Rattle.field.specs.Modulo.{mod257}
+use Rattle.search.specs.Finds.{finds-some}
+use Rattle.search.specs.Search.{word, Sought}
+use Rattle.search.specs.SearchLaws.{search-done, search-past, search-outside, Missed, search-stuck, search-skipped, sought-past, sought-joined}
+use Rattle.search.proofs.search.Reads as reads
+use Rattle.search.proofs.search.Kinds as kinds
+use Rattle.search.proofs.+search.Lts-search as lts
 use Rattle.search.proofs.keepers.alone.Reads as alone-reads
 use Rattle.search.proofs.keepers.has.Reads as has-reads
 use Rattle.search.proofs.tried.Reads as tried-reads
 use Rattle.search.proofs.+search.{statement}
 use Rattle.search.proofs.+search.Tie.{close}
 
-abbrev μ-search : Measures 1 search-kinds.ps ℕ
+abbrev μ-search : Measures 1 kinds.ps ℕ
 μ-search κs a = 16 - a .1 .1 .1 .1 .1 .1 .0
 
-abbrev search-at : ℕ → In 1 search-kinds.ps
-search-at t = and 1 search-kinds.ps (is 1 search-kinds.ps μ-search t) search′.Pre
+module _ (t : ℕ) where
+  abbrev given : In 1 kinds.ps
+  given = givenAt 1 kinds.ps μ-search reads.Pre t
 
-abbrev search-below : ℕ → In 1 search-kinds.ps
-search-below t = and 1 search-kinds.ps (falls 1 search-kinds.ps _<_ μ-search t) search′.Pre
+  abbrev calls : lts.Claims
+  calls = (tried-reads.Asked, tried-reads.Learnt, has-reads.Asked, has-reads.Learnt, askedBelow 1 kinds.ps μ-search reads.Pre t, reads.Post, alone-reads.Asked, alone-reads.Learnt)
 
-abbrev calls : ℕ → search-lts.Claims
-calls t = (tried-reads.Asked, tried-reads.Learnt, has-reads.Asked, has-reads.Learnt, search-below t, search′.Post, alone-reads.Asked, alone-reads.Learnt)
+  tried-requires : lts.Need-tried-requires calls given reads.Post
+  tried-requires c κs = search needs
 
-search-tried-requires : (t : ℕ) → search-lts.Need-tried-requires (calls t) (search-at t) search′.Post
-search-tried-requires t c κs = search needs
+  returns : lts.Need-returns calls given reads.Post
+  returns c = search-done (c .tried .ensures)
 
-search-returns : (t : ℕ) → search-lts.Need-returns (calls t) (search-at t) search′.Post
-search-returns t c = search-done (c .tried .ensures)
+  returns-2 : lts.Need-returns-2 calls given reads.Post
+  returns-2 c = search-past (omega arith) (omega arith)
 
-search-returns-2 : (t : ℕ) → search-lts.Need-returns-2 (calls t) (search-at t) search′.Post
-search-returns-2 t c = search-past (omega arith) (omega arith)
+  has-requires : lts.Need-has-requires calls given reads.Post
+  has-requires c κs = search needs
 
-search-has-requires : (t : ℕ) → search-lts.Need-has-requires (calls t) (search-at t) search′.Post
-search-has-requires t c κs = search needs
+  add-search : lts.Need-add-search calls given reads.Post
+  add-search c = search needs
 
-search-add-search : (t : ℕ) → search-lts.Need-add-search (calls t) (search-at t) search′.Post
-search-add-search t c = search needs
+  -- past the next keeper the same is sought
+  past : (c : lts.Else2 calls given reads.Post) → (let a = c .before .before .before .args in Sought (a .t) (a .need) (a .base) (a .lack) (a .next + 1))
+  past c = sought-past (c .before .before .before .pre .1 .1) (c .if2 .left)
 
-search-search-requires : (t : ℕ) → search-lts.Need-search-requires (calls t) (search-at t) search′.Post
-search-search-requires t c κs =
-    let a = c .before .before .before .before .before in
-    (omega arith, (a .pre .1 .0, sought-past (a .pre .1 .1) (c .before .before .if2 .left)))
+  search-requires : lts.Need-search-requires calls given reads.Post
+  search-requires c κs = let sought = past (c .before .before) in search needs
 
-search-returns-3 : (t : ℕ) → search-lts.Need-returns-3 (calls t) (search-at t) search′.Post
-search-returns-3 t c = search-outside (sym (c .before .before .has .ensures) ∙ not-true _ (c .before .if3 .taken)) (c .search .ensures)
+  returns-3 : lts.Need-returns-3 calls given reads.Post
+  returns-3 c = search-outside (sym (c .before .before .has .ensures) ∙ not-true _ (c .before .if3 .taken)) (c .search .ensures)
 
-search-alone-requires : (t : ℕ) → search-lts.Need-alone-requires (calls t) (search-at t) search′.Post
-search-alone-requires t c κs = search needs
+  alone-requires : lts.Need-alone-requires calls given reads.Post
+  alone-requires c κs = search needs
 
-search-add-search-2 : (t : ℕ) → search-lts.Need-add-search-2 (calls t) (search-at t) search′.Post
-search-add-search-2 t c =
-    let a = c .before .before .before .before .before .before in
-    record { fits = rw (c .alone .ensures) (joined-below (a .args .base) (a .args .next) (a .pre .1 .1 .before) 16 (c .before .before .before .if2 .left)) }
+  add-search-2 : lts.Need-add-search-2 calls given reads.Post
+  add-search-2 c =
+      let a = c .before .before .before .before .before .before in
+      record { fits = rw (c .alone .ensures) (joined-below (a .args .base) (a .args .next) (a .pre .1 .1 .before) 16 (c .before .before .before .if2 .left)) }
 
-search-sub-search : (t : ℕ) → search-lts.Need-sub-search (calls t) (search-at t) search′.Post
-search-sub-search t c = search needs
+  sub-search : lts.Need-sub-search calls given reads.Post
+  sub-search c = search needs
 
-search-add-search-3 : (t : ℕ) → search-lts.Need-add-search-3 (calls t) (search-at t) search′.Post
-search-add-search-3 t c = search needs
+  add-search-3 : lts.Need-add-search-3 calls given reads.Post
+  add-search-3 c = search needs
 
-search-search-requires-2 : (t : ℕ) → search-lts.Need-search-requires-2 (calls t) (search-at t) search′.Post
-search-search-requires-2 t c κs =
-    let a = c .before .before .before .before .before .before in
-    (omega arith, (a .pre .1 .0, sought-joined (a .pre .1 .1) (c .before .before .before .if2 .left) (c .alone .result) (c .alone .ensures) (c .before .before .before .before .if1 .left)))
+  search-requires-2 : lts.Need-search-requires-2 calls given reads.Post
+  search-requires-2 c κs =
+      let a = c .before .before .before .before .before .before in
+      let sought = sought-joined (a .pre .1 .1) (c .before .before .before .if2 .left) (c .alone .result) (c .alone .ensures) (c .before .before .before .before .if1 .left) in
+      search needs
 
-search-returns-4 : (t : ℕ) → search-lts.Need-returns-4 (calls t) (search-at t) search′.Post
-search-returns-4 t c = search-found (c .before .before .alone .result) (c .before .search2 .ensures) (c .if4 .taken)
+  returns-4 : lts.Need-returns-4 calls given reads.Post
+  returns-4 c = finds-some (c .if4 .taken) (c .before .search2 .ensures .sound (c .if4 .taken))
 
-search-returns-5 : (t : ℕ) → search-lts.Need-returns-5 (calls t) (search-at t) search′.Post
-search-returns-5 t c =
-    let d = c .before in
-    let a = d .before .before .before .before .before .before .before .before in
-    search-stuck (d .before .before .alone .result) (d .before .search2 .ensures) (d .if4 .left) (d .before .before .alone .ensures) (d .before .before .before .before .before .if2 .left) (a .pre .1 .1 .before)
-    (sym (d .before .before .before .before .has .ensures) ∙ not-false _ (d .before .before .before .if3 .left)) (c .if5 .taken)
+  -- nothing was found with this keeper in the base
+  missed : (c : lts.Else4 calls given reads.Post) → (let a = c .before .before .before .before .before .before .before .before .args in Missed mod257 (a .t) 16 (a .need) (member (a .among)) (word (a .words .now)) (a .base) (a .next) (a .skips))
+  missed c =
+      let a = c .before .before .before .before .before .before .before .before in
+      record {
+        within = c .before .before .before .before .before .if2 .left;
+        before = a .pre .1 .1 .before;
+        of = sym (c .before .before .before .before .has .ensures) ∙ not-false _ (c .before .before .before .if3 .left);
+        searched = rw (c .if4 .left, c .before .before .alone .ensures) at (c .before .search2 .ensures);
+      }
 
-search-add-search-4 : (t : ℕ) → search-lts.Need-add-search-4 (calls t) (search-at t) search′.Post
-search-add-search-4 t c = search needs
+  returns-5 : lts.Need-returns-5 calls given reads.Post
+  returns-5 c = search-stuck (missed (c .before)) (c .if5 .taken)
 
-search-sub-search-2 : (t : ℕ) → search-lts.Need-sub-search-2 (calls t) (search-at t) search′.Post
-search-sub-search-2 t c = search needs
+  add-search-4 : lts.Need-add-search-4 calls given reads.Post
+  add-search-4 c = search needs
 
-search-search-requires-3 : (t : ℕ) → search-lts.Need-search-requires-3 (calls t) (search-at t) search′.Post
-search-search-requires-3 t c κs =
-    let a = c .before .before .before .before .before .before .before .before .before in
-    (omega arith, (a .pre .1 .0, sought-past (a .pre .1 .1) (c .before .before .before .before .before .before .if2 .left)))
+  sub-search-2 : lts.Need-sub-search-2 calls given reads.Post
+  sub-search-2 c = search needs
 
-search-returns-6 : (t : ℕ) → search-lts.Need-returns-6 (calls t) (search-at t) search′.Post
-search-returns-6 t c =
-    let d = c .before .before in
-    let a = d .before .before .before .before .before .before .before .before in
-    search-skipped (d .before .before .alone .result) (d .before .search2 .ensures) (d .if4 .left) (d .before .before .alone .ensures) (d .before .before .before .before .before .if2 .left) (a .pre .1 .1 .before)
-    (sym (d .before .before .before .before .has .ensures) ∙ not-false _ (d .before .before .before .if3 .left)) (c .search3 .ensures)
+  search-requires-3 : lts.Need-search-requires-3 calls given reads.Post
+  search-requires-3 c κs = let sought = past (c .before .before .before .before .before .before) in search needs
+
+  returns-6 : lts.Need-returns-6 calls given reads.Post
+  returns-6 c = search-skipped (missed (c .before .before)) (c .search3 .ensures)
+
+  spec : {M : Type 1} → lts.Closed calls given reads.Post M
+  spec =
+      lts.spec
+      calls
+      given
+      reads.Post
+      tried-requires
+      returns
+      returns-2
+      has-requires
+      add-search
+      search-requires
+      returns-3
+      alone-requires
+      add-search-2
+      sub-search
+      add-search-3
+      search-requires-2
+      returns-4
+      returns-5
+      add-search-4
+      sub-search-2
+      search-requires-3
+      returns-6
 
 pub +search-spec : {M : Type 1} → statement M
-+search-spec = close μ-search λ t. search-lts.spec (calls t)
-    (search-at t)
-    search′.Post
-    (search-tried-requires t)
-    (search-returns t)
-    (search-returns-2 t)
-    (search-has-requires t)
-    (search-add-search t)
-    (search-search-requires t)
-    (search-returns-3 t)
-    (search-alone-requires t)
-    (search-add-search-2 t)
-    (search-sub-search t)
-    (search-add-search-3 t)
-    (search-search-requires-2 t)
-    (search-returns-4 t)
-    (search-returns-5 t)
-    (search-add-search-4 t)
-    (search-sub-search-2 t)
-    (search-search-requires-3 t)
-    (search-returns-6 t)
++search-spec = close μ-search (λ t. spec t)

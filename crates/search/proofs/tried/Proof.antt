@@ -5,9 +5,10 @@ use borrow.Author.Needs.{needs}
 use Rattle.lists.specs.Below.{below-any}
 use Rattle.lists.specs.KeeperSet.{member}
 use Rattle.field.specs.Laws.{mod257-field}
+use Rattle.field.specs.Modulo.{mod257}
 use Rattle.search.specs.Base.{base-length, base-keepers, keeper-points}
 use Rattle.search.specs.Search.{word}
-use Rattle.search.specs.TriedLaws.{tried-enough, tried-short}
+use Rattle.search.specs.TriedLaws.{Tried, tried-enough, tried-short}
 use Rattle.search.proofs.tried.Statement.{statement}
 use Rattle.search.proofs.tried.Tie as tie
 
@@ -26,17 +27,23 @@ slice-aggregate-matching c = omega (arith, base-length (c .before .first .ensure
 matching-requires : tie.Need-matching-requires
 matching-requires c κs = (base-keepers (c .before .first .ensures), search needs)
 
+-- what was tried, whether enough match or not
+tried : (c : tie.After-matching) → (let a = c .before .before .before .before .args in Tried mod257 (a .t) 16 (a .need) (member (a .among)) (member (a .base)) (word (a .words .now)) (c .matching .result))
+tried c =
+    let a = c .before .before .before .before in
+    record {
+      points = _;
+      first = c .before .before .first .ensures;
+      carries = c .matching .ensures;
+      below = λ x. below-any 257 (a .args .words .now) (omega arith) (a .pre .0 .below) (x - 1);
+      positive = a .pre .1 .1 .0;
+    }
+
 returns : tie.Need-returns
-returns c =
-    let a = c .before .before .before .before .before in
-    tried-enough mod257-field (a .args .t) 16 (a .args .need) (member (a .args .among)) (member (a .args .base)) (word (a .args .words .now)) _ keeper-points
-    (λ x. below-any 257 (a .args .words .now) (omega arith) (a .pre .0 .below) (x - 1)) (a .pre .1 .1 .0) (c .before .before .before .first .ensures) (c .before .matching .result) (c .before .matching .ensures) (c .if1 .taken)
+returns c = tried-enough mod257-field keeper-points (tried (c .before)) (c .if1 .taken)
 
 returns-2 : tie.Need-returns-2
-returns-2 c =
-    let a = c .before .before .before .before .before in
-    tried-short mod257-field (a .args .t) 16 (a .args .need) (member (a .args .among)) (member (a .args .base)) (word (a .args .words .now)) _ keeper-points
-    (λ x. below-any 257 (a .args .words .now) (omega arith) (a .pre .0 .below) (x - 1)) (a .pre .1 .1 .0) (c .before .before .before .first .ensures) (c .before .matching .result) (c .before .matching .ensures) (c .if1 .left)
+returns-2 c = tried-short mod257-field keeper-points (tried (c .before)) (c .if1 .left)
 
 pub tried-spec : {M : Type 1} → statement M
 tried-spec =
