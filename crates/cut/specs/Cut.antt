@@ -10,9 +10,9 @@ use Rattle.lists.specs.Pieces.{pieces}
 use Rattle.algebra.specs.Field.{Ops}
 use Rattle.algebra.specs.Poly.{eval}
 use Rattle.block.specs.Check.{allAtMost}
-use Rattle.format.specs.declared.order.Order.{Order}
-use Rattle.format.specs.Order.{lawfulOrder}
-use Rattle.format.specs.Head.{lawfulLength, lawfulStamp}
+use Rattle.header.specs.declared.order.Order.{Order}
+use Rattle.header.specs.Order.{lawfulOrder}
+use Rattle.header.specs.Head.{lawfulLength, lawfulStamp}
 use Rattle.format.specs.Letter.{letterBytes}
 use Rattle.tray.specs.Tray.{headFor}
 

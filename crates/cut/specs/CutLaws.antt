@@ -1,21 +1,19 @@
 -- What it says that a cut is not refused.
 -- Assumes nothing.
-use Prim.Native.Nat.{ℕ, suc, _*_, _≤_}
-use mathlib.Core.Path.{_≡_, refl, sym, _∙_}
-use mathlib.Core.Bool.{Bool, true, false, cond}
+use Prim.Native.Nat.{ℕ, _*_, _≤_}
+use mathlib.Core.Path.{_≡_, sym, _∙_}
 use mathlib.Core.List.{List}
-use native.Mathlib.Omega.{arith}
 use lib.ListN.{length}
 use borrow.Author.Tests.{eq-eqb, ne-eqb}
 use Rattle.lists.specs.Below.{Below}
 use Rattle.algebra.specs.Field.{Ops}
 use Rattle.block.specs.Check.{allAtMost}
 use Rattle.block.specs.AtMostLaws.{at-most-below, below-at-most}
-use Rattle.format.specs.declared.order.Order.{Order}
-use Rattle.format.specs.Order.{lawfulOrder}
-use Rattle.format.specs.Head.{lawfulLength, lawfulStamp}
-use Rattle.format.specs.OrderLaws.{OrderFacts, lawful-order-facts, facts-lawful-order}
-use Rattle.format.specs.Passing.{passed, passes}
+use Rattle.header.specs.declared.order.Order.{Order}
+use Rattle.header.specs.Order.{lawfulOrder}
+use Rattle.header.specs.Head.{lawfulLength, lawfulStamp}
+use Rattle.header.specs.OrderLaws.{OrderFacts, lawful-order-facts, facts-lawful-order}
+use Rattle.header.specs.Passing.{passed, passes, passing}
 use Rattle.cut.specs.Cut.{lentRight, cutNumber, cutTray, CutDone}
 
 module _ (order : Order) (stamp : ℕ) (secret random tray : List ℕ) where
@@ -28,11 +26,6 @@ module _ (order : Order) (stamp : ℕ) (secret random tray : List ℕ) where
     pub words-lent : length random ≡ length secret * order .t
     pub tray-lent : length tray ≡ 2048 * order .n
     pub words-within : Below 257 random
-
-  -- a test that is not the one refused
-  passing : (test : Bool) (rest number : ℕ) → cond test rest (suc number) ≡ 0 → (test ≡ true) × (rest ≡ 0)
-  passing true rest number e = (refl, e)
-  passing false rest number e = absurd (omega arith)
 
   pub accepted-facts : cutNumber order stamp secret random tray ≡ 0 → CutFacts
   unfolding cutNumber

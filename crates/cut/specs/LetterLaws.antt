@@ -10,9 +10,9 @@ use lib.ListN.{length}
 use Rattle.lists.specs.Below.{Below}
 use Rattle.lists.specs.Pieces.{pieces, pieces-same}
 use Rattle.algebra.specs.Field.{Ops}
-use Rattle.format.specs.declared.order.Order.{Order}
-use Rattle.format.specs.Head.{lawfulHead}
-use Rattle.format.specs.HeadLaws.{facts-lawful-head}
+use Rattle.header.specs.declared.order.Order.{Order}
+use Rattle.header.specs.Head.{lawfulHead}
+use Rattle.header.specs.HeadLaws.{facts-lawful-head}
 use Rattle.format.specs.Letter.{letterBytes}
 use Rattle.tray.specs.Tray.{headFor}
 use Rattle.cut.specs.Columns.{columnsOf, valuesFrom}

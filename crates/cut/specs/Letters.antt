@@ -6,8 +6,8 @@ use mathlib.Core.List.{List}
 use lib.ListN.{length}
 use Rattle.lists.specs.Below.{Below}
 use Rattle.algebra.specs.Field.{Ops}
-use Rattle.format.specs.declared.order.Order.{Order}
-use Rattle.format.specs.OrderLaws.{OrderFacts}
+use Rattle.header.specs.declared.order.Order.{Order}
+use Rattle.header.specs.OrderLaws.{OrderFacts}
 use Rattle.format.specs.Letter.{letterBytes}
 use Rattle.tray.specs.Tray.{headFor}
 use Rattle.cut.specs.Columns.{valuesFrom}

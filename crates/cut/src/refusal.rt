@@ -6,8 +6,8 @@ ghost use lib.ListN.{length};
 ghost use Rattle.block.specs.Check.{allAtMost};
 ghost use Rattle.cut.specs.Cut.{lentRight, cutNumber};
 use block::bounds::within;
-use format::order;
-use format::order::Order;
+use header::order;
+use header::order::Order;
 
 // Whether the random words and the tray are as many as the order asks for a secret of this length.
 fn lent_right(o: Order, secret: &[u8], random: &[u16], tray: &[u8]) -> bool

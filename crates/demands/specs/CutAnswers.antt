@@ -7,9 +7,9 @@ use native.Mathlib.Omega.{arith}
 use lib.ListN.{length}
 use Rattle.lists.specs.Below.{Below}
 use Rattle.field.specs.Modulo.{mod257}
-use Rattle.format.specs.declared.order.Order.{Order}
-use Rattle.format.specs.OrderLaws.{lawful-order-facts, facts-lawful-order}
-use Rattle.format.specs.Passing.{passed, passes}
+use Rattle.header.specs.declared.order.Order.{Order}
+use Rattle.header.specs.OrderLaws.{lawful-order-facts, facts-lawful-order}
+use Rattle.header.specs.Passing.{passed, passes}
 use Rattle.cut.specs.Cut.{cutNumber, cutTray, CutDone}
 use Rattle.cut.specs.CutLaws.{accepted-facts, facts-accepted}
 use Rattle.cut.specs.OneCut.{OneCut}

@@ -22,9 +22,9 @@ use Rattle.field.specs.Modulo.{mod257}
 use Rattle.field.specs.Laws.{mod257-field}
 use Rattle.block.specs.Check.{allAtMost, plainCheck, weightedCheck}
 use Rattle.block.specs.AtMostLaws.{at-most-below}
-use Rattle.format.specs.declared.order.Order.{Order}
-use Rattle.format.specs.Order.{lawfulOrder}
-use Rattle.format.specs.Head.{lawfulStamp}
+use Rattle.header.specs.declared.order.Order.{Order}
+use Rattle.header.specs.Order.{lawfulOrder}
+use Rattle.header.specs.Head.{lawfulStamp}
 use Rattle.agree.specs.Agreement.{Polynomials, matches}
 use Rattle.agree.specs.ReachesLaws.{none-reaches}
 use Rattle.cut.specs.Cut.{shareWords}

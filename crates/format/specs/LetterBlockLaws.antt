@@ -11,11 +11,11 @@ use lib.Seq.{take-add}
 use Rattle.lists.specs.Below.{Below, below-append}
 use Rattle.block.specs.Check.{plainCheck, weightedCheck, sealed, blockNumber}
 use Rattle.block.specs.CheckLaws.{number-sealed, number-zero-below, number-zero-sealed}
-use Rattle.format.specs.declared.head.Head.{Head}
-use Rattle.format.specs.Head.{lawfulHead, headWords}
-use Rattle.format.specs.HeaderLaws.{mark-written, header-written, below-head-words, header-lawful, header-words}
-use Rattle.format.specs.LetterSizes.{length-head-words}
-use Rattle.format.specs.Reading.{markRight, headerRight, letterBlockNumber}
+use Rattle.header.specs.declared.head.Head.{Head}
+use Rattle.header.specs.Head.{lawfulHead, headWords}
+use Rattle.header.specs.Rules.{markRight, headerRight}
+use Rattle.header.specs.HeaderLaws.{length-head-words, mark-written, header-written, below-head-words, header-lawful, header-words}
+use Rattle.format.specs.Reading.{letterBlockNumber}
 
 pub sealed-append : (xs ys : List ℕ) → sealed (xs ++ ys) ≡ xs ++ (ys ++ (plainCheck (xs ++ ys) ∷ weightedCheck (xs ++ ys) ∷ []))
 unfolding sealed

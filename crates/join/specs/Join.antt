@@ -11,9 +11,9 @@ use Rattle.lists.specs.From.{from}
 use Rattle.lists.specs.KeeperSet.{keeperSet}
 use Rattle.algebra.specs.Field.{Ops}
 use Rattle.block.specs.Check.{allAtMost}
-use Rattle.format.specs.declared.order.Order.{Order}
-use Rattle.format.specs.Order.{lawfulOrder}
-use Rattle.format.specs.Head.{lawfulLength, lawfulStamp}
+use Rattle.header.specs.declared.order.Order.{Order}
+use Rattle.header.specs.Order.{lawfulOrder}
+use Rattle.header.specs.Head.{lawfulLength, lawfulStamp}
 use Rattle.tray.specs.Tray.{usable, wordOf}
 use Rattle.agree.specs.Agreement.{agreeing, needed, Reaches, constants}
 use Rattle.join.specs.declared.Joined.{Joined}

@@ -7,11 +7,11 @@ use mathlib.Core.List.{List}
 use lib.Dec.{eqb}
 use lib.ListN.{length}
 use Rattle.algebra.specs.Field.{Ops}
-use Rattle.format.specs.declared.order.Order.{Order}
-use Rattle.format.specs.Order.{lawfulOrder}
-use Rattle.format.specs.Head.{lawfulLength, lawfulStamp}
-use Rattle.format.specs.OrderLaws.{OrderFacts, lawful-order-facts, facts-lawful-order}
-use Rattle.format.specs.Passing.{passed, passes, passing}
+use Rattle.header.specs.declared.order.Order.{Order}
+use Rattle.header.specs.Order.{lawfulOrder}
+use Rattle.header.specs.Head.{lawfulLength, lawfulStamp}
+use Rattle.header.specs.OrderLaws.{OrderFacts, lawful-order-facts, facts-lawful-order}
+use Rattle.header.specs.Passing.{passed, passes, passing}
 use Rattle.join.specs.Join.{joinRefusal, answer, JoinDone, refused}
 
 module _ (order : Order) (stamp l : ℕ) (tray room : List ℕ) where

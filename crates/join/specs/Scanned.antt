@@ -9,7 +9,7 @@ use Rattle.lists.specs.KeeperSet.{member, keeperSet}
 use Rattle.lists.specs.KeeperSetLaws.{keeper-set-lt, member-keeper-set, member-past}
 use Rattle.algebra.specs.Field.{Ops}
 use Rattle.weigh.specs.Weigh.{rowWord}
-use Rattle.format.specs.declared.order.Order.{Order}
+use Rattle.header.specs.declared.order.Order.{Order}
 use Rattle.agree.specs.ScanLaws.{SameScan}
 use Rattle.tray.specs.Tray.{usable, wordOf}
 use Rattle.tray.specs.Scan.{Scanned}

@@ -5,8 +5,8 @@ ghost use Prim.Native.Nat.{_*_, _≤_};
 ghost use lib.Dec.{eqb};
 ghost use lib.ListN.{length};
 ghost use Rattle.join.specs.Join.{joinRefusal};
-use format::order;
-use format::order::Order;
+use header::order;
+use header::order::Order;
 
 // Whether the tray and the room are as large as the order and the length ask.
 fn lent_right(o: Order, l: usize, tray: &[u8], room: &[u8]) -> bool

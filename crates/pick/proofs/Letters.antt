@@ -5,11 +5,11 @@ use mathlib.Core.Path.{_≡_, refl, ap, _∙_}
 use mathlib.Core.Bool.{Bool, true, false, cond}
 use mathlib.Core.List.{List}
 use native.Mathlib.Omega.{arith}
-use Rattle.format.specs.declared.order.Order.{Order}
+use Rattle.header.specs.declared.order.Order.{Order}
+use Rattle.header.specs.Head.{sameHead}
+use Rattle.header.specs.HeadLaws.{same-head-equal, equal-same-head}
 use Rattle.format.specs.declared.reader.Reading.{Reading}
 use Rattle.format.specs.declared.reader.Reading.the-variants.{Good, Bad}
-use Rattle.format.specs.Head.{sameHead}
-use Rattle.format.specs.HeadLaws.{same-head-equal, equal-same-head}
 use Rattle.format.specs.Reading.{readOf}
 use Rattle.tray.specs.Tray.{headFor, slotOf, usable}
 use Rattle.tray.specs.UsableLaws.{usable-reads, reads-usable, usable-facts}

@@ -9,7 +9,7 @@ use native.Mathlib.Omega.{arith}
 use lib.Dec.{eqb}
 use lib.ListN.{getD}
 use borrow.Author.Tests.{eqb-true, eq-eqb, ne-eqb}
-use Rattle.format.specs.declared.order.Order.{Order}
+use Rattle.header.specs.declared.order.Order.{Order}
 use Rattle.tray.specs.Tray.{usable}
 use Rattle.tray.specs.UsableLaws.{usable-facts}
 use Rattle.pick.specs.Keys.{keyOf, keyAt, sizeOf, KeysOf, BestOf, answerOf}

@@ -7,7 +7,7 @@ use lib.ListN.{getD}
 use Rattle.lists.specs.Chosen as some
 use Rattle.lists.specs.From.{from}
 use Rattle.lists.specs.Member.{in-getD}
-use Rattle.format.specs.declared.order.Order.{Order}
+use Rattle.header.specs.declared.order.Order.{Order}
 use Rattle.tray.specs.Tray.{usable}
 use Rattle.tray.specs.UsableLaws.{usable-facts}
 use Rattle.pick.specs.declared.Picked.{Picked}

@@ -4,7 +4,7 @@ use borrow.Author.Needs.{needs}
 use Prim.Native.Nat.{_-_}
 use mathlib.Core.Path.{_≡_, sym, _∙_}
 use native.Mathlib.Omega.{arith}
-use Rattle.format.specs.HeadLaws.{lawful-head-facts}
+use Rattle.header.specs.HeadLaws.{lawful-head-facts}
 use Rattle.format.specs.Reading.{blockWords, letterBlockNumber, ending}
 use Rattle.format.proofs.Counting.{counted}
 use Rattle.format.proofs.Judging.{JudgedTo, judged-first, judged-next, judged-bad, judged-all}

@@ -4,8 +4,8 @@ use mathlib.Core.Bool.{true}
 use native.Mathlib.Omega.{arith}
 use borrow.Author.Needs.{needs}
 use borrow.Author.Tests.{not-true, not-false, le-leb, lt-leb}
-use Rattle.format.specs.Order.{lawfulOrder}
-use Rattle.format.specs.OrderLaws.{lawful-order-facts}
+use Rattle.header.specs.Order.{lawfulOrder}
+use Rattle.header.specs.OrderLaws.{lawful-order-facts}
 use Rattle.join.specs.Join.{joinRefusal}
 use Rattle.join.proofs.refusal.refusal.Statement.{statement}
 use Rattle.join.proofs.refusal.refusal.Tie as tie

@@ -2,7 +2,7 @@
 -- Assumes nothing.
 use mathlib.Core.Path.{sym, _∙_}
 use borrow.Author.Needs.{needs}
-use Rattle.format.specs.HeadLaws.{lawful-head-facts}
+use Rattle.header.specs.HeadLaws.{lawful-head-facts}
 use Rattle.format.specs.ReadingBounds.{good-lawful}
 use Rattle.pick.proofs.keys.key_in.Statement.{statement}
 use Rattle.pick.proofs.keys.key_in.Tie as tie
