@@ -13,7 +13,8 @@ use Rattle.algebra.specs.Field.{Ops}
 use Rattle.header.specs.declared.order.Order.{Order}
 use Rattle.header.specs.Order.{lawfulOrder}
 use Rattle.header.specs.OrderLaws.{KeeperFacts, facts-lawful-keeper}
-use Rattle.header.specs.Head.{lawfulHead, lawfulLength, lawfulStamp}
+use Rattle.header.specs.Head.{lawfulHead}
+use Rattle.header.specs.Terms.{lawfulStamp, lawfulLength}
 use Rattle.format.specs.declared.reader.Reading.the-variants.{Good}
 use Rattle.format.specs.Reading.{readOf, sharesOf}
 use Rattle.format.specs.WrittenReads.{Reads, written-reads}

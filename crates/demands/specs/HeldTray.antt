@@ -18,10 +18,11 @@ use Rattle.lists.specs.Total.{total}
 use Rattle.block.specs.Check.{allAtMost, checked, blockNumber}
 use Rattle.block.specs.Words.{wordsOf}
 use Rattle.header.specs.declared.order.Order.{Order}
-use Rattle.header.specs.Head.{headOf, lawfulHead, lawfulStamp, lawfulLength}
+use Rattle.header.specs.Head.{headOf, lawfulHead}
 use Rattle.header.specs.Order.{lawfulOrder}
 use Rattle.header.specs.OrderLaws.{facts-lawful-keeper}
 use Rattle.header.specs.Rules.{markRight}
+use Rattle.header.specs.Terms.{lawfulStamp, lawfulLength}
 use Rattle.format.specs.declared.reader.Reading.the-variants.{Bad}
 use Rattle.format.specs.Letter.{blocksFor, letterBytes}
 use Rattle.format.specs.Reading.{readOf, judgedFrom, firstFault, letterBlockNumber}

@@ -50,7 +50,7 @@ module _ (slot : List ℕ) (h : Head) (bytes : Below 256 slot) (good : GoodSlot 
   facts = lawful-head-facts h lawful-read
 
   blocks : BlocksFacts (h .length)
-  blocks = blocks-facts (h .length) (facts .length-least) (facts .length-most)
+  blocks = blocks-facts (h .length) (facts .of-terms .length-least) (facts .of-terms .length-most)
 
   block : (p : ℕ) → p < blockCount h → BlockRead h p (blockWords slot p)
   block p l =

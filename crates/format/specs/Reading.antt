@@ -9,6 +9,7 @@ use Rattle.lists.specs.Pieces.{pieces}
 use Rattle.block.specs.Words.{wordsOf}
 use Rattle.block.specs.Check.{allAtMost, blockNumber}
 use Rattle.header.specs.declared.head.Head.{Head}
+use Rattle.header.specs.FirstOf.{firstOf}
 use Rattle.header.specs.Head.{headOf}
 use Rattle.header.specs.Rules.{markRight, headerRight}
 use Rattle.format.specs.declared.reader.Reading.{Reading}
@@ -22,7 +23,7 @@ blockWords slot p = wordsOf (take 512 (drop (512 * p) slot))
 -- "in a block 9, then 10, 11, 12"; 0 where the block is good
 unfoldable pub letterBlockNumber : Head → ℕ → List ℕ → ℕ
 letterBlockNumber first p ws =
-    cond (eqb (blockNumber ws) 0) (cond (markRight ws) (cond (headerRight first p ws) 0 12) 11) (blockNumber ws)
+    firstOf (blockNumber ws) (firstOf (cond (markRight ws) 0 11) (cond (headerRight first p ws) 0 12))
 
 -- "the first faulty block decides, and its place is in the result": of k blocks from place p on, by the number of each
 unfoldable pub firstFault : (ℕ → ℕ) → ℕ → ℕ → Reading → Reading

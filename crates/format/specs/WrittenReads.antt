@@ -62,7 +62,7 @@ module _ (h : Head) (shares : List ℕ) where
     facts = lawful-head-facts h lawful
 
     blocks : BlocksFacts (h .length)
-    blocks = blocks-facts (h .length) (facts .length-least) (facts .length-most)
+    blocks = blocks-facts (h .length) (facts .of-terms .length-least) (facts .of-terms .length-most)
 
     more : ℕ
     more = 238 * blockCount h - h .length

@@ -1,10 +1,10 @@
 // Reading a slot: whether it holds a good letter, and if not, what is wrong and where.
 ghost use mathlib.Core.Path.{_≡_};
 ghost use mathlib.Core.Bool.{true, cond};
-ghost use lib.Dec.{eqb};
 ghost use Prim.Native.Nat.{_*_, _<_, _≤_};
 ghost use lib.ListN.{length, take, drop};
 ghost use Rattle.block.specs.Words.{wordsOf};
+ghost use Rattle.header.specs.FirstOf.{firstOf};
 ghost use Rattle.header.specs.Head.{lawfulHead};
 ghost use Rattle.format.specs.Reading.{letterBlockNumber, sharesOf, endsInZeros, judgedFrom, readOf};
 use crate::letter::blocks;
@@ -41,7 +41,7 @@ fn unless(right: bool, number: u32) -> u32
 
 // The first of three numbers that is not 0.
 fn first_of(one: u32, two: u32, three: u32) -> u32
-    ensures { λ r. ⌜ r ≡ cond (eqb one 0) (cond (eqb two 0) three two) one ⌝ }
+    ensures { λ r. ⌜ r ≡ firstOf one (firstOf two three) ⌝ }
 {
     if one != 0 {
         return one;

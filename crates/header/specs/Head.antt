@@ -3,19 +3,12 @@
 use Prim.Native.Nat.{ℕ, _+_, _*_, _/_, _%_, _^_}
 use mathlib.Core.Bool.{Bool, _&&_}
 use mathlib.Core.List.{List, [], _∷_}
-use lib.Dec.{leb, eqb}
+use lib.Dec.{eqb}
 use lib.ListN.{getD}
 use Rattle.header.specs.declared.order.Order.{Order}
 use Rattle.header.specs.declared.head.Head.{Head}
 use Rattle.header.specs.Order.{lawfulOrder, lawfulKeeper, sameOrder}
-
--- "A stamp is 1..4,294,967,295."
-abbrev pub lawfulStamp : ℕ → Bool
-lawfulStamp s = leb 1 s && leb s 4294967295
-
--- "A secret has L bytes, 1..952."
-abbrev pub lawfulLength : ℕ → Bool
-lawfulLength l = leb 1 l && leb l 952
+use Rattle.header.specs.Terms.{lawfulStamp, lawfulLength}
 
 unfoldable pub lawfulHead : Head → Bool
 lawfulHead h = lawfulOrder (h .order) && (lawfulKeeper (h .order) (h .keeper) && (lawfulStamp (h .stamp) && lawfulLength (h .length)))

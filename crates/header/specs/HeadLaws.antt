@@ -1,31 +1,26 @@
 -- What it says that a head is lawful and that two heads are the same.
 -- Assumes nothing.
-use Prim.Native.Nat.{_≤_}
 use mathlib.Core.Path.{_≡_, ap}
 use mathlib.Core.Bool.{true}
 use Rattle.header.specs.declared.head.Head.{Head}
-use Rattle.header.specs.OrderLaws.{OrderFacts, KeeperFacts, lawful-order-facts, facts-lawful-order, lawful-keeper-facts, facts-lawful-keeper, same-order-equal, equal-same-order}
+use Rattle.header.specs.OrderLaws.{KeeperFacts, lawful-keeper-facts, facts-lawful-keeper, same-order-equal, equal-same-order}
 use Rattle.header.specs.Head.{lawfulHead, sameHead}
 use Rattle.header.specs.Passing.{passed, passes}
+use Rattle.header.specs.TermsLaws.{TermsFacts, lawful-terms-facts, facts-lawful-terms}
 
 pub record HeadFacts (h : Head) : Type 0 where
-  pub of-order : OrderFacts (h .order)
+  pub of-terms : TermsFacts (h .order) (h .stamp) (h .length)
   pub of-keeper : KeeperFacts (h .order) (h .keeper)
-  pub stamp-least : 1 ≤ h .stamp
-  pub stamp-most : h .stamp ≤ 4294967295
-  pub length-least : 1 ≤ h .length
-  pub length-most : h .length ≤ 952
 
 pub lawful-head-facts : (h : Head) → lawfulHead h ≡ true → HeadFacts h
 unfolding lawfulHead
-lawful-head-facts h e = search (passed, lawful-order-facts, lawful-keeper-facts)
+lawful-head-facts h e = search (passed, lawful-terms-facts, lawful-keeper-facts)
 
 pub facts-lawful-head : (h : Head) → HeadFacts h → lawfulHead h ≡ true
 unfolding lawfulHead
 facts-lawful-head h facts =
-    let order = facts-lawful-order (h .order) (facts .of-order) in
-    let keeper = facts-lawful-keeper (h .order) (h .keeper) (facts .of-keeper) in
-    simp (passes, order, keeper, facts .stamp-least, facts .stamp-most, facts .length-least, facts .length-most)
+    let terms = facts-lawful-terms (h .order) (h .stamp) (h .length) (facts .of-terms) in
+    rw (terms .0, facts-lawful-keeper (h .order) (h .keeper) (facts .of-keeper), terms .2) (terms .1)
 
 pub same-head-equal : (a b : Head) → sameHead a b ≡ true → a ≡ b
 unfolding sameHead

@@ -39,8 +39,8 @@ length-head-words h p = refl
 pub head-of-words : (h : Head) (p : ℕ) (rest : List ℕ) → HeadFacts h → headOf (headWords h p ++ rest) ≡ h
 unfolding headOf headWords
 head-of-words h p rest facts =
-    let stamp = four-bytes (h .stamp) (facts .stamp-most) in
-    let length = two-bytes (h .length) (facts .length-most) in
+    let stamp = four-bytes (h .stamp) (facts .of-terms .stamp-most) in
+    let length = two-bytes (h .length) (facts .of-terms .length-most) in
     λ i. record { order = h .order; keeper = h .keeper; stamp = stamp i; length = length i }
 
 byte-most : (x : ℕ) → x % 256 ≤ 255

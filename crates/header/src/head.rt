@@ -7,6 +7,8 @@ ghost use Rattle.block.specs.Words.{wordsOf};
 ghost use Rattle.header.specs.Head.{lawfulHead, sameHead, headWords, orderOf, stampOf, lengthOf, headOf, lowByte};
 use crate::order;
 use crate::order::Order;
+use crate::terms::lawful_length;
+use crate::terms::lawful_stamp;
 use block::words::word_at;
 
 pub struct Head {
@@ -21,7 +23,7 @@ pub fn lawful(h: Head) -> bool
 {
     let o = h.order;
     order::lawful(o)
-        && (order::has_keeper(o, h.keeper) && (1 <= h.stamp && (1 <= h.length && h.length <= 952)))
+        && (order::has_keeper(o, h.keeper) && (lawful_stamp(h.stamp) && lawful_length(h.length)))
 }
 
 pub fn same(a: Head, b: Head) -> bool

@@ -37,4 +37,4 @@ module _ (order : Order) (stamp l : ℕ) (tray : List ℕ) (set : ℕ) (rows : L
       → Outcome O (order .t) (order .f) 16 (member set) (rowWord rows) (length room) room result left → JoinDone O order stamp l tray room result left
   scanned-done {room = room} e o =
       let facts = accepted-facts order stamp l tray room e in
-      judged e (scanned-outcome (facts .of-order .n-most) (rw (facts .room-lent) at o))
+      judged e (scanned-outcome (facts .of-terms .of-order .n-most) (rw (facts .room-lent) at o))

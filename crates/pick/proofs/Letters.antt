@@ -51,7 +51,7 @@ module _ (order : Order) (tray : List ℕ) (k : ℕ) where
   pub key-usable : (stamp l : ℕ) → 1 ≤ stamp → l ≤ 952 → keyAt order tray k ≡ keyOf stamp l → usable order stamp l tray (k + 1) ≡ true
   key-usable stamp l least short e =
       let letter = key-letter (omega arith) in
-      let facts = usable-facts order (letter .stamp) (letter .length) tray (k + 1) (letter .stands) in
+      let facts = usable-facts order (letter .stamp) (letter .length) tray (k + 1) (letter .stands) .of-terms in
       let key = usable-key (letter .stamp) (letter .length) (letter .stands) in
       let one : letter .stamp ≡ stamp = omega (arith, facts .length-most) in
       let two : letter .length ≡ l = omega (arith, facts .length-most) in

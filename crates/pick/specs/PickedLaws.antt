@@ -19,7 +19,7 @@ large-length order tray stamp l large =
     let test = usable order stamp l tray in
     let all = from 1 (order .n) in
     let here = in-getD (some.chosen test all) 0 (omega (arith, some.length-chosen test all)) in
-    usable-facts order stamp l tray (getD (some.chosen test all) 0 0) (some.chosen-passes test all (getD (some.chosen test all) 0 0) here) .length-most
+    usable-facts order stamp l tray (getD (some.chosen test all) 0 0) (some.chosen-passes test all (getD (some.chosen test all) 0 0) here) .of-terms .length-most
 
 pub picked-length : {order : Order} {tray : List ℕ} {result : Picked} → PickDone order tray result → result .length ≤ 952
 picked-length (refused p) = omega arith

@@ -1,8 +1,6 @@
--- `head::lawful` meets its contract: its tests are the definition's, in their order; that a stamp is at most 4,294,967,295 its type says.
+-- `head::lawful` meets its contract: its tests are the definition's, in their order.
 -- Assumes nothing.
 use borrow.Author.Needs.{needs}
-use native.Mathlib.Omega.{arith}
-use Prim.Native.Nat.{_≤_}
 use Rattle.header.specs.Head.{lawfulHead}
 use Rattle.header.specs.Chain.{chain}
 use Rattle.header.proofs.head.lawful.Statement.{statement}
@@ -14,17 +12,19 @@ lawful-requires c κs = search needs
 has-keeper-requires : tie.Need-has-keeper-requires
 has-keeper-requires c κs = search needs
 
+lawful-stamp-requires : tie.Need-lawful-stamp-requires
+lawful-stamp-requires c κs = search needs
+
+lawful-length-requires : tie.Need-lawful-length-requires
+lawful-length-requires c κs = search needs
+
 returns : tie.Need-returns
 unfolding lawfulHead
-returns c =
-    let small : c .before .before .before .before .before .before .before .before .before .before .args .h .stamp ≤ 4294967295 = omega arith in
-    search chain depth 7
+returns c = search chain
 
 returns-2 : tie.Need-returns-2
 unfolding lawfulHead
-returns-2 c =
-    let small : c .before .before .before .before .before .before .before .before .before .args .h .stamp ≤ 4294967295 = omega arith in
-    search chain depth 7
+returns-2 c = search chain
 
 returns-3 : tie.Need-returns-3
 unfolding lawfulHead
@@ -34,11 +34,7 @@ returns-4 : tie.Need-returns-4
 unfolding lawfulHead
 returns-4 c = search chain
 
-returns-5 : tie.Need-returns-5
-unfolding lawfulHead
-returns-5 c = search chain
-
 pub lawful-spec : {M : Type 1} → statement M
 lawful-spec =
     tie.close
-    (tie.spec lawful-requires has-keeper-requires returns returns-2 returns-3 returns-4 returns-5)
+    (tie.spec lawful-requires has-keeper-requires lawful-stamp-requires lawful-length-requires returns returns-2 returns-3 returns-4)

@@ -29,7 +29,7 @@ key-of-requires : tie.Need-key-of-requires
 key-of-requires c κs =
     let given = c .before .before .before .before .h .given in
     let read = sym (c .before .before .before .before .before .before .read .ensures) ∙ given .1 in
-    lawful-head-facts _ (good-lawful _ (given .0 .0) read) .length-most
+    lawful-head-facts _ (good-lawful _ (given .0 .0) read) .of-terms .length-most
 
 returns-2 : tie.Need-returns-2
 returns-2 c =
