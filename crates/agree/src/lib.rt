@@ -1,4 +1,4 @@
 // The agreement: the keepers whose words lie on polynomials of degree at most t, found word by word.
 pub mod agreement;
 pub mod constants;
-pub mod step;
+mod step;

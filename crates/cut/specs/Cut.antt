@@ -10,9 +10,9 @@ use Rattle.lists.specs.Pieces.{pieces}
 use Rattle.algebra.specs.Field.{Ops}
 use Rattle.algebra.specs.Poly.{eval}
 use Rattle.block.specs.Check.{allAtMost}
-use Rattle.format.specs.declared.order.Order.{Order}
-use Rattle.format.specs.Order.{lawfulOrder}
-use Rattle.format.specs.Head.{lawfulLength, lawfulStamp}
+use Rattle.header.specs.declared.order.Order.{Order}
+use Rattle.header.specs.FirstOf.{firstOf}
+use Rattle.header.specs.Terms.{termsNumber}
 use Rattle.format.specs.Letter.{letterBytes}
 use Rattle.tray.specs.Tray.{headFor}
 
@@ -34,18 +34,10 @@ cutTray O order stamp secret random = pieces (λ k. letterOf O order stamp secre
 abbrev pub lentRight : Order → List ℕ → List ℕ → List ℕ → Bool
 lentRight order secret random tray = eqb (length random) (length secret * order .t) && eqb (length tray) (2048 * order .n)
 
--- "Refusals: 1, 2, 3, 4, 5."
+-- "Refusals: 1, 2, 3, 4, 5.": of what is told, then of what is lent
 unfoldable pub cutNumber : Order → ℕ → List ℕ → List ℕ → List ℕ → ℕ
 cutNumber order stamp secret random tray =
-    cond (lawfulOrder order)
-    (cond (lawfulLength (length secret))
-    (cond (lawfulStamp stamp)
-    (cond (lentRight order secret random tray)
-    (cond (allAtMost 256 random) 0 5)
-    4)
-    3)
-    2)
-    1
+    firstOf (termsNumber order stamp (length secret)) (cond (lentRight order secret random tray) (cond (allAtMost 256 random) 0 5) 4)
 
 -- what the cut answers and leaves: its number, and the tray, which only 0 changes
 pub record CutDone (O : Ops) (order : Order) (stamp : ℕ) (secret random tray : List ℕ) (number : ℕ) (left : List ℕ) : Type 0 where

@@ -1,56 +1,37 @@
 -- What it says that a cut is not refused.
 -- Assumes nothing.
-use Prim.Native.Nat.{ℕ, suc, _*_, _≤_}
-use mathlib.Core.Path.{_≡_, refl, sym, _∙_}
-use mathlib.Core.Bool.{Bool, true, false, cond}
+use Prim.Native.Nat.{ℕ, _*_}
+use mathlib.Core.Path.{_≡_, sym, _∙_}
 use mathlib.Core.List.{List}
-use native.Mathlib.Omega.{arith}
 use lib.ListN.{length}
 use borrow.Author.Tests.{eq-eqb, ne-eqb}
 use Rattle.lists.specs.Below.{Below}
 use Rattle.algebra.specs.Field.{Ops}
 use Rattle.block.specs.Check.{allAtMost}
 use Rattle.block.specs.AtMostLaws.{at-most-below, below-at-most}
-use Rattle.format.specs.declared.order.Order.{Order}
-use Rattle.format.specs.Order.{lawfulOrder}
-use Rattle.format.specs.Head.{lawfulLength, lawfulStamp}
-use Rattle.format.specs.OrderLaws.{OrderFacts, lawful-order-facts, facts-lawful-order}
-use Rattle.format.specs.Passing.{passed, passes}
+use Rattle.header.specs.declared.order.Order.{Order}
+use Rattle.header.specs.FirstOf.{both-right}
+use Rattle.header.specs.Passing.{passed, passes, passing}
+use Rattle.header.specs.Terms.{termsNumber}
+use Rattle.header.specs.TermsLaws.{TermsFacts, told-facts, facts-told}
 use Rattle.cut.specs.Cut.{lentRight, cutNumber, cutTray, CutDone}
 
 module _ (order : Order) (stamp : ℕ) (secret random tray : List ℕ) where
   pub record CutFacts : Type 0 where
-    pub of-order : OrderFacts order
-    pub length-least : 1 ≤ length secret
-    pub length-most : length secret ≤ 952
-    pub stamp-least : 1 ≤ stamp
-    pub stamp-most : stamp ≤ 4294967295
+    pub of-terms : TermsFacts order stamp (length secret)
     pub words-lent : length random ≡ length secret * order .t
     pub tray-lent : length tray ≡ 2048 * order .n
     pub words-within : Below 257 random
 
-  -- a test that is not the one refused
-  passing : (test : Bool) (rest number : ℕ) → cond test rest (suc number) ≡ 0 → (test ≡ true) × (rest ≡ 0)
-  passing true rest number e = (refl, e)
-  passing false rest number e = absurd (omega arith)
-
   pub accepted-facts : cutNumber order stamp secret random tray ≡ 0 → CutFacts
   unfolding cutNumber
   accepted-facts e =
-      let of-order = passing (lawfulOrder order) _ 0 e in
-      let of-length = passing (lawfulLength (length secret)) _ 1 (of-order .1) in
-      let of-stamp = passing (lawfulStamp stamp) _ 2 (of-length .1) in
-      let of-lent = passing (lentRight order secret random tray) _ 3 (of-stamp .1) in
+      let right = both-right (termsNumber order stamp (length secret)) _ e in
+      let of-lent = passing (lentRight order secret random tray) _ 3 (right .1) in
       let of-words = passing (allAtMost 256 random) 0 4 (of-lent .1) in
-      let length-right = of-length .0 in
-      let stamp-right = of-stamp .0 in
       let lent-right = of-lent .0 in
       record {
-        of-order = lawful-order-facts order (of-order .0);
-        length-least = search passed;
-        length-most = search passed;
-        stamp-least = search passed;
-        stamp-most = search passed;
+        of-terms = told-facts order stamp (length secret) (right .0);
         words-lent = search passed;
         tray-lent = search passed;
         words-within = at-most-below 256 random (of-words .0);
@@ -59,7 +40,7 @@ module _ (order : Order) (stamp : ℕ) (secret random tray : List ℕ) where
   pub facts-accepted : CutFacts → cutNumber order stamp secret random tray ≡ 0
   unfolding cutNumber
   facts-accepted h =
-      simp (passes, facts-lawful-order order (h .of-order), h .length-least, h .length-most, h .stamp-least, h .stamp-most, h .words-lent, h .tray-lent, below-at-most 256 random (h .words-within))
+      simp (passes, facts-told order stamp (length secret) (h .of-terms), h .words-lent, h .tray-lent, below-at-most 256 random (h .words-within))
 
   -- what the cut does once its number is known: 0, and the tray is filled; or another, and it is left
   module _ (O : Ops) (number : ℕ) (answers : number ≡ cutNumber order stamp secret random tray) where

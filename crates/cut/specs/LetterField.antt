@@ -7,9 +7,9 @@ use native.Mathlib.Omega.{arith}
 use Rattle.algebra.specs.Field.{Ops, IsField}
 use Rattle.field.specs.Modulo.{mod257}
 use Rattle.field.specs.Laws.{mod257-field}
-use Rattle.format.specs.declared.order.Order.{Order}
-use Rattle.format.specs.Order.{lawfulOrder}
-use Rattle.format.specs.OrderLaws.{lawful-order-facts}
+use Rattle.header.specs.declared.order.Order.{Order}
+use Rattle.header.specs.Order.{lawfulOrder}
+use Rattle.header.specs.OrderLaws.{lawful-order-facts}
 
 pub record LetterField (O : Ops) : Type 0 where
   pub laws : IsField O

@@ -10,9 +10,9 @@ use lib.ListN.{length}
 use Rattle.lists.specs.Below.{Below}
 use Rattle.lists.specs.Pieces.{pieces, pieces-same}
 use Rattle.algebra.specs.Field.{Ops}
-use Rattle.format.specs.declared.order.Order.{Order}
-use Rattle.format.specs.Head.{lawfulHead}
-use Rattle.format.specs.HeadLaws.{facts-lawful-head}
+use Rattle.header.specs.declared.order.Order.{Order}
+use Rattle.header.specs.Head.{lawfulHead}
+use Rattle.header.specs.HeadLaws.{facts-lawful-head}
 use Rattle.format.specs.Letter.{letterBytes}
 use Rattle.tray.specs.Tray.{headFor}
 use Rattle.cut.specs.Columns.{columnsOf, valuesFrom}
@@ -31,26 +31,14 @@ letter-written O order stamp columns l x y row slot same filled written =
 pub lent-lawful : {order : Order} {stamp l bytes : ℕ} {columns : List ℕ} → LettersLent order stamp columns l bytes
     → (k : ℕ) → k < order .n → lawfulHead (headFor order stamp l (k + 1)) ≡ true
 lent-lawful {order} {stamp} {l} lent k h =
-    facts-lawful-head (headFor order stamp l (k + 1))
-    (record {
-      of-order = lent .of-order;
-      of-keeper = omega arith;
-      stamp-least = lent .stamp-least;
-      stamp-most = lent .stamp-most;
-      length-least = lent .length-least;
-      length-most = lent .length-most;
-    })
+    facts-lawful-head (headFor order stamp l (k + 1)) (record { of-terms = lent .of-terms; of-keeper = omega arith })
 
 module _ (order : Order) (stamp : ℕ) (secret random columns : List ℕ) (l : ℕ) (laid : columns ≡ columnsOf (order .t) secret random) (long : l ≡ length secret) where
   -- laid out, the letters are lent what they want
   pub laid-lent : (tray : List ℕ) → CutFacts order stamp secret random tray → Below 257 secret → LettersLent order stamp columns l (length tray)
   laid-lent tray facts bytes =
       record {
-        of-order = facts .of-order;
-        stamp-least = facts .stamp-least;
-        stamp-most = facts .stamp-most;
-        length-least = omega arith;
-        length-most = omega arith;
+        of-terms = rw long (facts .of-terms);
         columns-lent = rw (laid, long, add-one) (length-columns (order .t) secret random);
         columns-within = rw laid (below-columns (order .t) secret random (facts .words-lent) 257 bytes (facts .words-within));
         tray-lent = facts .tray-lent;

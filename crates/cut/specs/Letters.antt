@@ -1,13 +1,13 @@
 -- The letters of columns: what the cut writes once the secret and the random words are laid out.
 -- Assumes nothing.
-use Prim.Native.Nat.{ℕ, _+_, _*_, _≤_}
+use Prim.Native.Nat.{ℕ, _+_, _*_}
 use mathlib.Core.Path.{_≡_}
 use mathlib.Core.List.{List}
 use lib.ListN.{length}
 use Rattle.lists.specs.Below.{Below}
 use Rattle.algebra.specs.Field.{Ops}
-use Rattle.format.specs.declared.order.Order.{Order}
-use Rattle.format.specs.OrderLaws.{OrderFacts}
+use Rattle.header.specs.declared.order.Order.{Order}
+use Rattle.header.specs.TermsLaws.{TermsFacts}
 use Rattle.format.specs.Letter.{letterBytes}
 use Rattle.tray.specs.Tray.{headFor}
 use Rattle.cut.specs.Columns.{valuesFrom}
@@ -18,11 +18,7 @@ letterFrom O order stamp columns l x = letterBytes (headFor order stamp l x) (va
 
 -- what is lent to write them: columns, a row of l words to work in, and a tray of so many bytes
 pub record LettersLent (order : Order) (stamp : ℕ) (columns : List ℕ) (l bytes : ℕ) : Type 0 where
-  pub of-order : OrderFacts order
-  pub stamp-least : 1 ≤ stamp
-  pub stamp-most : stamp ≤ 4294967295
-  pub length-least : 1 ≤ l
-  pub length-most : l ≤ 952
+  pub of-terms : TermsFacts order stamp l
   pub columns-lent : length columns ≡ l * (order .t + 1)
   pub columns-within : Below 257 columns
   pub tray-lent : bytes ≡ 2048 * order .n

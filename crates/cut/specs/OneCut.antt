@@ -10,10 +10,11 @@ use lib.ListN.{length}
 use Rattle.lists.specs.Below.{Below}
 use Rattle.lists.specs.Pieces.{length-pieces, part-pieces, below-pieces}
 use Rattle.algebra.specs.Field.{Ops}
-use Rattle.format.specs.declared.order.Order.{Order}
-use Rattle.format.specs.Order.{lawfulOrder}
-use Rattle.format.specs.OrderLaws.{KeeperFacts, facts-lawful-keeper}
-use Rattle.format.specs.Head.{lawfulHead, lawfulLength, lawfulStamp}
+use Rattle.header.specs.declared.order.Order.{Order}
+use Rattle.header.specs.Order.{lawfulOrder}
+use Rattle.header.specs.OrderLaws.{KeeperFacts, facts-lawful-keeper}
+use Rattle.header.specs.Head.{lawfulHead}
+use Rattle.header.specs.Terms.{lawfulStamp, lawfulLength}
 use Rattle.format.specs.declared.reader.Reading.the-variants.{Good}
 use Rattle.format.specs.Reading.{readOf, sharesOf}
 use Rattle.format.specs.WrittenReads.{Reads, written-reads}

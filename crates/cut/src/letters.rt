@@ -6,13 +6,13 @@ ghost use lib.ListN.{length};
 ghost use Rattle.lists.specs.Below.{Below};
 ghost use Rattle.lists.specs.Pieces.{pieces};
 ghost use Rattle.field.specs.Modulo.{mod257};
-ghost use Rattle.format.specs.Head.{lawfulHead};
+ghost use Rattle.header.specs.Head.{lawfulHead};
 ghost use Rattle.tray.specs.Tray.{headFor};
 ghost use Rattle.cut.specs.Letters.{letterFrom, LettersLent};
 use crate::rows::share_row;
-use format::head::Head;
 use format::letter::write;
-use format::order::Order;
+use header::head::Head;
+use header::order::Order;
 
 fn narrow(x: usize) -> u16
     requires { ⌜ x ≤ 16 ⌝ }

@@ -6,8 +6,8 @@ ghost use lib.ListN.{length};
 ghost use Rattle.block.specs.Check.{allAtMost};
 ghost use Rattle.cut.specs.Cut.{lentRight, cutNumber};
 use block::bounds::within;
-use format::order;
-use format::order::Order;
+use header::order::Order;
+use header::terms::terms_number;
 
 // Whether the random words and the tray are as many as the order asks for a secret of this length.
 fn lent_right(o: Order, secret: &[u8], random: &[u16], tray: &[u8]) -> bool
@@ -31,18 +31,9 @@ fn lent_number(o: Order, secret: &[u8], random: &[u16], tray: &[u8]) -> u32
 pub fn refusal(o: Order, stamp: u32, secret: &[u8], random: &[u16], tray: &[u8]) -> u32
     ensures { λ r. ⌜ r ≡ cutNumber o stamp (now (secret .entry)) (now (random .entry)) (now (tray .entry)) ⌝ }
 {
-    let l = secret.len();
-    if !order::lawful(o) {
-        return 1;
-    }
-    if l < 1 {
-        return 2;
-    }
-    if 952 < l {
-        return 2;
-    }
-    if stamp < 1 {
-        return 3;
+    let told = terms_number(o, stamp, secret.len());
+    if told != 0 {
+        return told;
     }
     lent_number(o, secret, random, tray)
 }

@@ -7,7 +7,7 @@ ghost use Rattle.cut.specs.Cut.{cutNumber, cutTray, CutDone};
 use crate::columns::lay_out;
 use crate::letters::write_letters;
 use crate::refusal::refusal;
-use format::order::Order;
+use header::order::Order;
 
 // Fills a tray with a letter for each keeper. The columns and the row are room to work in.
 fn fill(

@@ -11,7 +11,7 @@ use Rattle.lists.specs.From.{from}
 use Rattle.lists.specs.KeeperSet.{keeperSet}
 use Rattle.algebra.specs.Field.{Ops}
 use Rattle.block.specs.Check.{allAtMost}
-use Rattle.format.specs.declared.order.Order.{Order}
+use Rattle.header.specs.declared.order.Order.{Order}
 use Rattle.tray.specs.Tray.{usable, wordOf}
 use Rattle.agree.specs.Agreement.{agreeing, needed, Reaches, constants}
 use Rattle.cut.specs.LetterField.{LetterField, keepers-apart}

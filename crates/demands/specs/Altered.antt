@@ -12,7 +12,7 @@ use Rattle.lists.specs.Chosen.{chosen, length-chosen, count-chosen}
 use Rattle.lists.specs.Count.{count, count-not}
 use Rattle.lists.specs.From.{from}
 use Rattle.lists.specs.SameBytes.{sameBytes}
-use Rattle.format.specs.declared.order.Order.{Order}
+use Rattle.header.specs.declared.order.Order.{Order}
 use Rattle.tray.specs.Tray.{slotOf, usable}
 
 -- keeper x's slot is usable, and is the cut's

@@ -7,9 +7,8 @@ use native.Mathlib.Omega.{arith}
 use lib.ListN.{length}
 use Rattle.lists.specs.Below.{Below}
 use Rattle.field.specs.Modulo.{mod257}
-use Rattle.format.specs.declared.order.Order.{Order}
-use Rattle.format.specs.OrderLaws.{lawful-order-facts, facts-lawful-order}
-use Rattle.format.specs.Passing.{passed, passes}
+use Rattle.header.specs.declared.order.Order.{Order}
+use Rattle.header.specs.TermsLaws.{lawful-terms-facts, facts-lawful-terms}
 use Rattle.cut.specs.Cut.{cutNumber, cutTray, CutDone}
 use Rattle.cut.specs.CutLaws.{accepted-facts, facts-accepted}
 use Rattle.cut.specs.OneCut.{OneCut}
@@ -22,11 +21,12 @@ cut-left D e = D .leaves ∙ rw e
 pub zero-one-cut : {order : Order} {stamp : ℕ} {secret random tray left : List ℕ} → CutDone mod257 order stamp secret random tray 0 left → Below 256 secret
     → OneCut mod257 order stamp secret random × (left ≡ cutTray mod257 order stamp secret random)
 zero-one-cut {order} {stamp} {secret} {random} {tray} D bytes =
-    let h = accepted-facts order stamp secret random tray (sym (D .answers)) in (
+    let h = accepted-facts order stamp secret random tray (sym (D .answers)) in
+    let lawful = facts-lawful-terms order stamp (length secret) (h .of-terms) in (
       record {
-        order-lawful = facts-lawful-order order (h .of-order);
-        stamp-lawful = simp (passes, h .stamp-least, h .stamp-most);
-        length-lawful = simp (passes, h .length-least, h .length-most);
+        order-lawful = lawful .0;
+        stamp-lawful = lawful .2;
+        length-lawful = lawful .1;
         constants-below = λ i k. omega (arith, bytes i k);
         random-size = h .words-lent;
         random-below = h .words-within;
@@ -37,14 +37,8 @@ zero-one-cut {order} {stamp} {secret} {random} {tray} D bytes =
 pub one-cut-zero : {order : Order} {stamp number : ℕ} {secret random tray left : List ℕ} → OneCut mod257 order stamp secret random → length tray ≡ 2048 * order .n
     → CutDone mod257 order stamp secret random tray number left → (number ≡ 0) × (left ≡ cutTray mod257 order stamp secret random)
 one-cut-zero {order} {stamp} {secret = secret} {random} {tray} C s D =
-    let length-right = C .length-lawful in
-    let stamp-right = C .stamp-lawful in
     let e = facts-accepted order stamp secret random tray (record {
-      of-order = lawful-order-facts order (C .order-lawful);
-      length-least = search passed;
-      length-most = search passed;
-      stamp-least = search passed;
-      stamp-most = search passed;
+      of-terms = lawful-terms-facts order stamp (length secret) (C .order-lawful) (C .length-lawful) (C .stamp-lawful);
       words-lent = C .random-size;
       tray-lent = s;
       words-within = C .random-below;

@@ -11,12 +11,12 @@ use lib.Seq.{length-take-le, ext-getD}
 use Rattle.lists.specs.Below.{Below, below-head, below-tail, below-take, below-drop}
 use Rattle.algebra.specs.Field.{Ops}
 use Rattle.algebra.specs.Poly.{eval, Degree, degree-cons}
-use Rattle.format.specs.declared.order.Order.{Order}
-use Rattle.format.specs.declared.head.Head.{Head}
+use Rattle.header.specs.declared.order.Order.{Order}
+use Rattle.header.specs.declared.head.Head.{Head}
+use Rattle.header.specs.OrderLaws.{KeeperFacts}
 use Rattle.format.specs.declared.reader.Reading.the-variants.{Good}
 use Rattle.format.specs.GoodWritten.{good-written}
 use Rattle.format.specs.OneSlot.{same-slot}
-use Rattle.format.specs.OrderLaws.{KeeperFacts}
 use Rattle.format.specs.Reading.{readOf, sharesOf}
 use Rattle.tray.specs.Tray.{headFor, slotOf, usable, wordOf}
 use Rattle.agree.specs.AgreementLaws.{matches-at, matches-holds}

@@ -17,13 +17,15 @@ use Rattle.lists.specs.Pieces.{pieces, length-pieces, part-pieces}
 use Rattle.lists.specs.Total.{total}
 use Rattle.block.specs.Check.{allAtMost, checked, blockNumber}
 use Rattle.block.specs.Words.{wordsOf}
-use Rattle.format.specs.declared.order.Order.{Order}
+use Rattle.header.specs.declared.order.Order.{Order}
+use Rattle.header.specs.Head.{headOf, lawfulHead}
+use Rattle.header.specs.Order.{lawfulOrder}
+use Rattle.header.specs.OrderLaws.{facts-lawful-keeper}
+use Rattle.header.specs.Rules.{markRight}
+use Rattle.header.specs.Terms.{lawfulStamp, lawfulLength}
 use Rattle.format.specs.declared.reader.Reading.the-variants.{Bad}
-use Rattle.format.specs.Head.{headOf, lawfulHead, lawfulStamp, lawfulLength}
-use Rattle.format.specs.Order.{lawfulOrder}
 use Rattle.format.specs.Letter.{blocksFor, letterBytes}
-use Rattle.format.specs.OrderLaws.{facts-lawful-keeper}
-use Rattle.format.specs.Reading.{readOf, judgedFrom, firstFault, letterBlockNumber, markRight}
+use Rattle.format.specs.Reading.{readOf, judgedFrom, firstFault, letterBlockNumber}
 use Rattle.format.specs.WrittenReads.{Reads, written-reads}
 use Rattle.tray.specs.Tray.{headFor, slotOf, usable, wordOf}
 use Rattle.agree.specs.ScanLaws.{SameScan}

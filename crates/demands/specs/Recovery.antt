@@ -17,8 +17,8 @@ use Rattle.lists.specs.SameTest.{same-test, same-and}
 use Rattle.algebra.specs.Field.{Ops}
 use Rattle.field.specs.Modulo.{mod257}
 use Rattle.block.specs.AtMostLaws.{below-at-most}
-use Rattle.format.specs.declared.order.Order.{Order}
-use Rattle.format.specs.OrderLaws.{KeeperFacts}
+use Rattle.header.specs.declared.order.Order.{Order}
+use Rattle.header.specs.OrderLaws.{KeeperFacts}
 use Rattle.tray.specs.Tray.{slotOf, usable, wordOf}
 use Rattle.agree.specs.Agreement.{matches, agreeing, needed}
 use Rattle.agree.specs.ReachesLaws.{agreeing-same}

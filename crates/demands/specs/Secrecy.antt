@@ -12,8 +12,8 @@ use Rattle.lists.specs.Member.{In, in-getD}
 use Rattle.algebra.specs.Field.{Ops}
 use Rattle.algebra.specs.Points.{Points}
 use Rattle.field.specs.Modulo.{mod257}
-use Rattle.format.specs.declared.order.Order.{Order}
-use Rattle.format.specs.OrderLaws.{KeeperFacts, lawful-order-facts}
+use Rattle.header.specs.declared.order.Order.{Order}
+use Rattle.header.specs.OrderLaws.{KeeperFacts, lawful-order-facts}
 use Rattle.tray.specs.Tray.{slotOf}
 use Rattle.cut.specs.Cut.{shareWords, letterOf, cutTray}
 use Rattle.cut.specs.LetterField.{LetterField, mod257-letters}

@@ -14,8 +14,8 @@ use Rattle.lists.specs.KeeperSet.{keeperSet}
 use Rattle.lists.specs.KeeperSetLaws.{keeper-set-same}
 use Rattle.lists.specs.SameBytes.{same-bytes-self}
 use Rattle.algebra.specs.Field.{Ops}
-use Rattle.format.specs.declared.order.Order.{Order}
-use Rattle.format.specs.OrderLaws.{KeeperFacts, lawful-order-facts}
+use Rattle.header.specs.declared.order.Order.{Order}
+use Rattle.header.specs.OrderLaws.{KeeperFacts, lawful-order-facts}
 use Rattle.tray.specs.Tray.{slotOf, usable}
 use Rattle.tray.specs.UsableLaws.{reads-usable}
 use Rattle.agree.specs.Agreement.{needed}

@@ -22,9 +22,9 @@ use Rattle.field.specs.Modulo.{mod257}
 use Rattle.field.specs.Laws.{mod257-field}
 use Rattle.block.specs.Check.{allAtMost, plainCheck, weightedCheck}
 use Rattle.block.specs.AtMostLaws.{at-most-below}
-use Rattle.format.specs.declared.order.Order.{Order}
-use Rattle.format.specs.Order.{lawfulOrder}
-use Rattle.format.specs.Head.{lawfulStamp}
+use Rattle.header.specs.declared.order.Order.{Order}
+use Rattle.header.specs.Order.{lawfulOrder}
+use Rattle.header.specs.Terms.{lawfulStamp, termsNumber}
 use Rattle.agree.specs.Agreement.{Polynomials, matches}
 use Rattle.agree.specs.ReachesLaws.{none-reaches}
 use Rattle.cut.specs.Cut.{shareWords}
@@ -114,7 +114,7 @@ module _ (stamp : ℕ) (lawful : lawfulStamp stamp ≡ true) (room : List ℕ) (
   -- the outcome of the letters' words is the join's
   joins : (ws : List ℕ) → allAtMost 256 ws ≡ true → {result : Joined} {left : List ℕ}
       → Outcome mod257 1 1 6 (λ x. leb x (length (each ws))) (λ x i. getD (getD (each ws) (x - 1) []) i 0) 1 room result left → Joins stamp room ws result left
-  unfolding lawfulOrder joinRefusal
+  unfolding lawfulOrder joinRefusal termsNumber
   joins ws b D =
       let H : Held order stamp 1 (each ws) = record {
         order-lawful = refl;

@@ -10,7 +10,7 @@ use native.Mathlib.Omega.{arith}
 use lib.Dec.{ltb}
 use lib.ListN.{length}
 use borrow.Author.Tests.{ltb-true, ltb-false}
-use Rattle.format.specs.declared.order.Order.{Order}
+use Rattle.header.specs.declared.order.Order.{Order}
 use Rattle.desk.specs.Desk.{stampHeld, deskRight, storeLeaves}
 use Rattle.desk.specs.GoodHere.{GoodHere, good-stamp, stamp-good}
 use Rattle.desk.specs.StoreLaws.{leaves-size, leaves-newer}

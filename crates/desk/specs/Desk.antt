@@ -7,11 +7,11 @@ use mathlib.Core.List.{List, []}
 use lib.Dec.{eqb, ltb}
 use lib.ListN.{length}
 use Rattle.lists.specs.SameBytes.{sameBytes}
-use Rattle.format.specs.declared.order.Order.{Order}
-use Rattle.format.specs.declared.head.Head.{Head}
+use Rattle.header.specs.declared.order.Order.{Order}
+use Rattle.header.specs.declared.head.Head.{Head}
+use Rattle.header.specs.Order.{lawfulOrder, lawfulKeeper, sameOrder}
 use Rattle.format.specs.declared.reader.Reading.{Reading}
 use Rattle.format.specs.declared.reader.Reading.the-variants.{Good, Bad}
-use Rattle.format.specs.Order.{lawfulOrder, lawfulKeeper, sameOrder}
 use Rattle.format.specs.Reading.{readOf, placeOf}
 use Rattle.desk.specs.declared.Stored.{Stored}
 

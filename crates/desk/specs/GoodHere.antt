@@ -6,13 +6,13 @@ use mathlib.Core.Bool.{Bool, true, false, cond}
 use mathlib.Core.List.{List}
 use native.Mathlib.Omega.{arith}
 use borrow.Author.Tests.{eq-eqb}
-use Rattle.format.specs.declared.order.Order.{Order}
-use Rattle.format.specs.declared.head.Head.{Head}
+use Rattle.header.specs.declared.order.Order.{Order}
+use Rattle.header.specs.declared.head.Head.{Head}
+use Rattle.header.specs.HeadLaws.{lawful-head-facts}
+use Rattle.header.specs.OrderLaws.{same-order-equal, equal-same-order}
+use Rattle.header.specs.Passing.{passed}
 use Rattle.format.specs.declared.reader.Reading.{Reading}
 use Rattle.format.specs.declared.reader.Reading.the-variants.{Good, Bad}
-use Rattle.format.specs.HeadLaws.{lawful-head-facts}
-use Rattle.format.specs.OrderLaws.{same-order-equal, equal-same-order}
-use Rattle.format.specs.Passing.{passed}
 use Rattle.format.specs.Reading.{readOf}
 use Rattle.format.specs.ReadingBounds.{good-lawful}
 use Rattle.desk.specs.Desk.{ofDesk, stampIn, stampHeld}

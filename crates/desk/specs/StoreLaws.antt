@@ -9,11 +9,11 @@ use lib.Dec.{eqb, ltb}
 use lib.ListN.{length}
 use borrow.Author.Tests.{eq-eqb, ne-eqb, eqb-true, le-ltb}
 use Rattle.lists.specs.SameBytes.{sameBytes, same-bytes-equal}
-use Rattle.format.specs.declared.order.Order.{Order}
+use Rattle.header.specs.declared.order.Order.{Order}
+use Rattle.header.specs.Head.{headOf}
+use Rattle.header.specs.Passing.{passed}
 use Rattle.format.specs.declared.reader.Reading.{Reading}
 use Rattle.format.specs.declared.reader.Reading.the-variants.{Good, Bad}
-use Rattle.format.specs.Head.{headOf}
-use Rattle.format.specs.Passing.{passed}
 use Rattle.format.specs.Reading.{blockWords, judgedFrom, readOf}
 use Rattle.format.specs.ReadingBounds.{FaultsIn, fault-facts}
 use Rattle.desk.specs.Desk.{ofDesk, stampIn, stampHeld, deskRight, against, offered, storeNumber, storeLeaves}

@@ -6,11 +6,11 @@ ghost use lib.ListN.{length};
 ghost use Rattle.lists.specs.SameBytes.{sameBytes};
 ghost use Rattle.format.specs.Reading.{readOf, placeOf};
 ghost use Rattle.desk.specs.Desk.{ofDesk, stampHeld, deskRight, against, offered, storeNumber, storePlace, StoreDone, fetchNumber, fetched};
-use format::head::Head;
-use format::order;
-use format::order::Order;
 use format::reader::Reading;
 use format::reader::read;
+use header::head::Head;
+use header::order;
+use header::order::Order;
 
 // What storing a letter answers: the number, and the place of a fault in the letter.
 pub struct Stored {

@@ -3,7 +3,7 @@
 use Prim.Native.Nat.{ℕ}
 use mathlib.Core.List.{List}
 use Rattle.algebra.specs.Field.{Ops}
-use Rattle.format.specs.declared.order.Order.{Order}
+use Rattle.header.specs.declared.order.Order.{Order}
 use Rattle.join.specs.declared.Joined.{Joined}
 use Rattle.join.specs.Join.{JoinDone}
 use Rattle.exports.specs.declared.joining.JoinResult.{JoinResult}

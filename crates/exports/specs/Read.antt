@@ -1,7 +1,7 @@
 -- What cs_read answers, by what the slot reads as.
 -- Assumes nothing.
 use Prim.Native.Nat.{ℕ}
-use Rattle.format.specs.declared.head.Head.{Head}
+use Rattle.header.specs.declared.head.Head.{Head}
 use Rattle.format.specs.declared.reader.Reading.{Reading}
 use Rattle.format.specs.Reading.{numberOf, placeOf, readHead}
 use Rattle.exports.specs.declared.reading.ReadResult.{ReadResult}

@@ -2,7 +2,7 @@
 -- Assumes nothing.
 use Prim.Native.Nat.{ℕ}
 use mathlib.Core.List.{List}
-use Rattle.format.specs.declared.order.Order.{Order}
+use Rattle.header.specs.declared.order.Order.{Order}
 use Rattle.desk.specs.declared.Stored.{Stored}
 use Rattle.desk.specs.Desk.{StoreDone}
 use Rattle.exports.specs.declared.keeping.StoreResult.{StoreResult}

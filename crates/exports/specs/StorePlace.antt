@@ -6,7 +6,7 @@ use mathlib.Core.List.{List}
 use native.Mathlib.Omega.{arith}
 use lib.Dec.{eqb}
 use lib.ListN.{length}
-use Rattle.format.specs.declared.order.Order.{Order}
+use Rattle.header.specs.declared.order.Order.{Order}
 use Rattle.format.specs.Reading.{readOf, placeOf}
 use Rattle.format.specs.ReadingBounds.{small-place}
 use Rattle.desk.specs.Desk.{deskRight, storePlace}

@@ -1,12 +1,12 @@
 // cs_read: what a slot reads as.
 ghost use mathlib.Core.Path.{_≡_};
 ghost use mathlib.Core.Bool.{true};
-ghost use Rattle.format.specs.Head.{lawfulHead};
+ghost use Rattle.header.specs.Head.{lawfulHead};
 ghost use Rattle.format.specs.Reading.{readOf};
 ghost use Rattle.exports.specs.Read.{readResult, numbers};
-use format::head::Head;
 use format::reader;
 use format::reader::Reading;
+use header::head::Head;
 
 #[repr(C)]
 pub struct ReadResult {

@@ -6,7 +6,7 @@ use mathlib.Core.List.{List}
 use native.Mathlib.Numerals.{add-one}
 use native.Mathlib.Omega.{arith}
 use borrow.Author.Tests.{eq-eqb, ne-eqb}
-use Rattle.format.specs.declared.head.Head.{Head}
+use Rattle.header.specs.declared.head.Head.{Head}
 use Rattle.format.specs.declared.reader.Reading.the-variants.{Bad}
 use Rattle.format.specs.Letter.{blocksFor}
 use Rattle.format.specs.Reading.{blockWords, letterBlockNumber, firstFault, ending, judgedFrom}

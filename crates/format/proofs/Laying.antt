@@ -10,9 +10,9 @@ use Rattle.lists.specs.Patched.{patched, patched-none, patched-more, length-pat
 use Rattle.lists.specs.Zeros.{drop-zeros}
 use Rattle.block.specs.Words.{bytesOf, wordsOf}
 use Rattle.block.specs.WordParts.{length-words, length-bytes, words-patched}
-use Rattle.format.specs.declared.head.Head.{Head}
-use Rattle.format.specs.Head.{headWords}
-use Rattle.format.specs.LetterSizes.{length-head-words}
+use Rattle.header.specs.declared.head.Head.{Head}
+use Rattle.header.specs.Head.{headWords}
+use Rattle.header.specs.HeaderLaws.{length-head-words}
 
 -- `bytes` with words laid over it from its front
 record Laid (bytes words now : List ℕ) : Type 0 where

@@ -1,4 +1,3 @@
-pub mod Chain
 pub mod Counting
 pub mod Filling
 pub mod Judging

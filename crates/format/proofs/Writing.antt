@@ -1,7 +1,7 @@
 -- Writing a letter, block after block, over zeros.
 -- Assumes nothing.
 use Prim.Native.Nat.{ℕ, suc, _+_, _-_, _*_, _<_, _≤_, min}
-use mathlib.Core.Path.{_≡_, refl, ap, _∙_}
+use mathlib.Core.Path.{_≡_, ap, _∙_}
 use mathlib.Core.List.{List, _++_}
 use native.Mathlib.Numerals.{add-one}
 use native.Mathlib.Omega.{arith}
@@ -10,8 +10,8 @@ use Rattle.lists.specs.Pieces.{pieces, length-pieces}
 use Rattle.lists.specs.Zeros.{drop-zeros}
 use Rattle.block.specs.Words.{bytesOf}
 use Rattle.block.specs.Check.{sealed}
-use Rattle.format.specs.declared.head.Head.{Head}
-use Rattle.format.specs.Head.{headWords}
+use Rattle.header.specs.declared.head.Head.{Head}
+use Rattle.header.specs.Head.{headWords}
 use Rattle.format.specs.Letter.{blocksFor, blockBytes, letterBytes}
 use Rattle.format.specs.LetterSizes.{block-shares-part, length-block-bytes}
 use Rattle.format.proofs.Counting.{Counted}

@@ -13,16 +13,16 @@ use Rattle.lists.specs.Pieces.{pieces, pieces-same, pieces-parts, part-pieces, 
 use Rattle.block.specs.WordLaws.{bytes-words}
 use Rattle.block.specs.Check.{allAtMost}
 use Rattle.block.specs.AtMostLaws.{at-most-zeros}
-use Rattle.format.specs.declared.head.Head.{Head}
+use Rattle.header.specs.declared.head.Head.{Head}
+use Rattle.header.specs.Head.{lawfulHead}
+use Rattle.header.specs.HeadLaws.{HeadFacts, lawful-head-facts}
+use Rattle.header.specs.Passing.{passed}
 use Rattle.format.specs.declared.reader.Reading.the-variants.{Good}
-use Rattle.format.specs.Head.{lawfulHead}
-use Rattle.format.specs.HeadLaws.{HeadFacts, lawful-head-facts}
 use Rattle.format.specs.Letter.{blockShares, blockBytes, letterBytes}
 use Rattle.format.specs.LetterSizes.{blockCount, BlocksFacts, blocks-facts}
 use Rattle.format.specs.LetterBlockLaws.{BlockRead, block-read}
 use Rattle.format.specs.ShareLaws.{block-shares-padded}
 use Rattle.format.specs.SlotWords.{sharesAt, length-block-words, length-shares-at, length-all-shares}
-use Rattle.format.specs.Passing.{passed}
 use Rattle.format.specs.Reading.{blockWords, allShares, sharesOf, endsInZeros, readOf}
 use Rattle.format.specs.GoodSlot.{GoodSlot, good-slot}
 
@@ -50,7 +50,7 @@ module _ (slot : List ℕ) (h : Head) (bytes : Below 256 slot) (good : GoodSlot 
   facts = lawful-head-facts h lawful-read
 
   blocks : BlocksFacts (h .length)
-  blocks = blocks-facts (h .length) (facts .length-least) (facts .length-most)
+  blocks = blocks-facts (h .length) (facts .of-terms .length-least) (facts .of-terms .length-most)
 
   block : (p : ℕ) → p < blockCount h → BlockRead h p (blockWords slot p)
   block p l =

@@ -7,8 +7,8 @@ use Rattle.lists.specs.Listed.{listed}
 use Rattle.lists.specs.Pieces.{pieces}
 use Rattle.block.specs.Words.{bytesOf}
 use Rattle.block.specs.Check.{sealed}
-use Rattle.format.specs.declared.head.Head.{Head}
-use Rattle.format.specs.Head.{headWords}
+use Rattle.header.specs.declared.head.Head.{Head}
+use Rattle.header.specs.Head.{headWords}
 
 -- "A letter is L/238 blocks, rounded up"
 unfoldable pub blocksFor : ℕ → ℕ

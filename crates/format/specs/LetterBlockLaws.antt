@@ -1,32 +1,26 @@
 -- A letter's block has nothing wrong with it, and a block with nothing wrong is a letter's.
 -- Assumes nothing.
-use Prim.Native.Nat.{ℕ, zero, suc, _<_}
-use mathlib.Core.Path.{_≡_, refl, _∙_}
-use mathlib.Core.Bool.{Bool, true, false, cond}
+use Prim.Native.Nat.{ℕ, _<_}
+use mathlib.Core.Path.{_≡_, _∙_}
+use mathlib.Core.Bool.{true, cond}
 use mathlib.Core.List.{List, [], _∷_, _++_, append-assoc}
 use native.Mathlib.Omega.{arith}
-use lib.Dec.{eqb, eqb·suc-zero}
 use lib.ListN.{length, take, drop, length-append}
 use lib.Seq.{take-add}
 use Rattle.lists.specs.Below.{Below, below-append}
 use Rattle.block.specs.Check.{plainCheck, weightedCheck, sealed, blockNumber}
 use Rattle.block.specs.CheckLaws.{number-sealed, number-zero-below, number-zero-sealed}
-use Rattle.format.specs.declared.head.Head.{Head}
-use Rattle.format.specs.Head.{lawfulHead, headWords}
-use Rattle.format.specs.HeaderLaws.{mark-written, header-written, below-head-words, header-lawful, header-words}
-use Rattle.format.specs.LetterSizes.{length-head-words}
-use Rattle.format.specs.Reading.{markRight, headerRight, letterBlockNumber}
+use Rattle.header.specs.declared.head.Head.{Head}
+use Rattle.header.specs.FirstOf.{both-right}
+use Rattle.header.specs.Head.{lawfulHead, headWords}
+use Rattle.header.specs.Passing.{passing}
+use Rattle.header.specs.Rules.{markRight, headerRight}
+use Rattle.header.specs.HeaderLaws.{length-head-words, mark-written, header-written, below-head-words, header-lawful, header-words}
+use Rattle.format.specs.Reading.{letterBlockNumber}
 
 pub sealed-append : (xs ys : List ℕ) → sealed (xs ++ ys) ≡ xs ++ (ys ++ (plainCheck (xs ++ ys) ∷ weightedCheck (xs ++ ys) ∷ []))
 unfolding sealed
 sealed-append xs ys = append-assoc xs ys (plainCheck (xs ++ ys) ∷ weightedCheck (xs ++ ys) ∷ [])
-
-all-passed : (number : ℕ) (mark header : Bool)
-    → cond {A = ℕ} (eqb number 0) (cond mark (cond header 0 12) 11) number ≡ 0 → (number ≡ 0) × (mark ≡ true) × (header ≡ true)
-all-passed zero true true e = (refl, refl, refl)
-all-passed zero true false e = absurd (omega arith)
-all-passed zero false header e = absurd (omega arith)
-all-passed (suc number) mark header e = absurd (omega (arith, rw eqb·suc-zero at e))
 
 module _ (h : Head) (p : ℕ) where
   pub below-block-words : (shares : List ℕ) → lawfulHead h ≡ true → p < 4 → Below 257 shares → Below 257 (headWords h p ++ shares)
@@ -47,9 +41,12 @@ module _ (h : Head) (p : ℕ) where
   pub block-read : (ws : List ℕ) → length ws ≡ 256 → letterBlockNumber h p ws ≡ 0 → BlockRead ws
   unfolding letterBlockNumber
   block-read ws size good =
-      let passed = all-passed (blockNumber ws) (markRight ws) (headerRight h p ws) good in
+      let checked = both-right (blockNumber ws) _ good in
+      let headed = both-right (cond (markRight ws) 0 11) _ (checked .1) in
+      let mark = passing (markRight ws) 0 10 (headed .0) .0 in
+      let header = passing (headerRight h p ws) 0 11 (headed .1) .0 in
       record {
-        lawful = header-lawful h p ws (passed .2);
-        within = number-zero-below ws (passed .0);
-        words = number-zero-sealed ws size (passed .0) ∙ rw (take-add 16 238 ws, header-words h p ws (omega arith) (passed .1) (passed .2));
+        lawful = header-lawful h p ws header;
+        within = number-zero-below ws (checked .0);
+        words = number-zero-sealed ws size (checked .0) ∙ rw (take-add 16 238 ws, header-words h p ws (omega arith) mark header);
       }

@@ -1,7 +1,7 @@
 -- How many blocks a letter has, what part of its share words each holds, and how long they are.
 -- Assumes nothing.
 use Prim.Native.Nat.{ℕ, _+_, _-_, _*_, _<_, _≤_, min}
-use mathlib.Core.Path.{_≡_, refl, sym, _∙_}
+use mathlib.Core.Path.{_≡_, sym, _∙_}
 use mathlib.Core.Logic.{by-cases}
 use mathlib.Core.List.{List, _++_}
 use native.Mathlib.Decide.{decLt}
@@ -12,8 +12,8 @@ use Rattle.lists.specs.Listed.{length-listed, listed-is}
 use Rattle.lists.specs.Zeros.{getD-append-zeros}
 use Rattle.block.specs.WordParts.{length-bytes}
 use Rattle.block.specs.CheckLaws.{length-sealed}
-use Rattle.format.specs.declared.head.Head.{Head}
-use Rattle.format.specs.Head.{headWords}
+use Rattle.header.specs.declared.head.Head.{Head}
+use Rattle.header.specs.HeaderLaws.{length-head-words}
 use Rattle.format.specs.Letter.{blocksFor, blockShares, blockBytes}
 
 pub record BlocksFacts (l : ℕ) : Type 0 where
@@ -53,10 +53,6 @@ block-shares-part shares p =
     (listed-is (λ i. getD shares (238 * p + i) 0) 238 (sharePart shares p ++ replicate (238 - length (sharePart shares p)) 0)
     (simp (length-append, length-replicate) (omega (arith, length-share-part shares p)))
     (λ i h. getD-append-zeros (sharePart shares p) (238 - length (sharePart shares p)) i ∙ getD-share-part shares p i h))
-
-pub length-head-words : (h : Head) (p : ℕ) → length (headWords h p) ≡ 16
-unfolding headWords
-length-head-words h p = refl
 
 pub length-block-bytes : (h : Head) (shares : List ℕ) (p : ℕ) → length (blockBytes h shares p) ≡ 512
 unfolding blockBytes

@@ -1,13 +1,7 @@
-pub mod Order
-pub mod Head
 pub mod Letter
 pub mod Reading
-pub mod Passing
-pub mod OrderLaws
-pub mod HeadLaws
 pub mod LetterSizes
 pub mod SlotWords
-pub mod HeaderLaws
 pub mod LetterBlockLaws
 pub mod GoodSlot
 pub mod ShareLaws

@@ -6,9 +6,9 @@ use mathlib.Core.Bool.{true}
 use mathlib.Core.List.{List}
 use lib.ListN.{length}
 use Rattle.lists.specs.Below.{Below}
-use Rattle.format.specs.declared.head.Head.{Head}
+use Rattle.header.specs.declared.head.Head.{Head}
+use Rattle.header.specs.Head.{lawfulHead}
 use Rattle.format.specs.declared.reader.Reading.the-variants.{Good}
-use Rattle.format.specs.Head.{lawfulHead}
 use Rattle.format.specs.Letter.{letterBytes}
 use Rattle.format.specs.Reading.{sharesOf, readOf}
 use Rattle.format.specs.WrittenReads.{written-reads}

@@ -1,44 +1,29 @@
 -- What a slot reads as.
 -- Assumes nothing.
 use Prim.Native.Nat.{ℕ, zero, suc, _*_, _-_, max}
-use mathlib.Core.Bool.{Bool, true, false, cond, _&&_}
-use mathlib.Core.List.{List, [], _∷_}
+use mathlib.Core.Bool.{Bool, cond, _&&_}
+use mathlib.Core.List.{List}
 use lib.Dec.{eqb}
-use lib.ListN.{length, getD, take, drop}
+use lib.ListN.{length, take, drop}
 use Rattle.lists.specs.Pieces.{pieces}
 use Rattle.block.specs.Words.{wordsOf}
 use Rattle.block.specs.Check.{allAtMost, blockNumber}
-use Rattle.format.specs.declared.head.Head.{Head}
+use Rattle.header.specs.declared.head.Head.{Head}
+use Rattle.header.specs.FirstOf.{firstOf}
+use Rattle.header.specs.Head.{headOf}
+use Rattle.header.specs.Rules.{markRight, headerRight}
 use Rattle.format.specs.declared.reader.Reading.{Reading}
 use Rattle.format.specs.declared.reader.Reading.the-variants.{Good, Bad}
-use Rattle.format.specs.Head.{headOf, lawfulHead, sameHead}
 use Rattle.format.specs.Letter.{blocksFor}
 
 -- the words of block p
 abbrev pub blockWords : List ℕ → ℕ → List ℕ
 blockWords slot p = wordsOf (take 512 (drop (512 * p) slot))
 
--- 11: "word 0 or 1 is wrong"
-unfoldable pub markRight : List ℕ → Bool
-markRight ws = eqb (getD ws 0 0) 81 && eqb (getD ws 1 0) 1
-
--- "a wrong place, words 13..15 not 0"
-unfoldable pub placeRight : ℕ → List ℕ → Bool
-placeRight place ws = eqb (getD ws 12 0) place && allAtMost 0 (take 3 (drop 13 ws))
-
--- 12: "an unlawful order, a keeper outside 1..n, stamp 0, L out of range, a byte word of 256, a wrong place, words 13..15 not 0, and a
--- later block that disagrees with block 0"
-unfoldable pub headerRight : Head → ℕ → List ℕ → Bool
-headerRight first place ws =
-    lawfulHead (headOf ws)
-    && (allAtMost 255 (take 6 (drop 6 ws))
-    && (placeRight place ws
-    && sameHead (headOf ws) first))
-
 -- "in a block 9, then 10, 11, 12"; 0 where the block is good
 unfoldable pub letterBlockNumber : Head → ℕ → List ℕ → ℕ
 letterBlockNumber first p ws =
-    cond (eqb (blockNumber ws) 0) (cond (markRight ws) (cond (headerRight first p ws) 0 12) 11) (blockNumber ws)
+    firstOf (blockNumber ws) (firstOf (cond (markRight ws) 0 11) (cond (headerRight first p ws) 0 12))
 
 -- "the first faulty block decides, and its place is in the result": of k blocks from place p on, by the number of each
 unfoldable pub firstFault : (ℕ → ℕ) → ℕ → ℕ → Reading → Reading

@@ -8,11 +8,11 @@ use native.Mathlib.Omega.{arith}
 use lib.Dec.{eqb}
 use lib.ListN.{length}
 use borrow.Author.Tests.{eqb-false}
-use Rattle.format.specs.declared.head.Head.{Head}
+use Rattle.header.specs.declared.head.Head.{Head}
+use Rattle.header.specs.Head.{headOf, lawfulHead}
 use Rattle.format.specs.declared.reader.Reading.{Reading}
 use Rattle.format.specs.declared.reader.Reading.the-variants.{Good, Bad}
 use Rattle.format.specs.GoodSlot.{good-slot}
-use Rattle.format.specs.Head.{headOf, lawfulHead}
 use Rattle.format.specs.Letter.{blocksFor}
 use Rattle.format.specs.LetterBlockLaws.{block-read}
 use Rattle.format.specs.Reading.{blockWords, letterBlockNumber, firstFault, ending, endsInZeros, judgedFrom, readOf, placeOf}

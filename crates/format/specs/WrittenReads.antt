@@ -14,13 +14,13 @@ use Rattle.block.specs.WordLaws.{words-bytes, below-bytes}
 use Rattle.block.specs.Check.{sealed}
 use Rattle.block.specs.AtMostLaws.{zeros-at-most}
 use Rattle.block.specs.CheckLaws.{below-sealed}
-use Rattle.format.specs.declared.head.Head.{Head}
+use Rattle.header.specs.declared.head.Head.{Head}
+use Rattle.header.specs.Head.{lawfulHead, headOf, headWords}
+use Rattle.header.specs.HeadLaws.{HeadFacts, lawful-head-facts}
+use Rattle.header.specs.HeaderLaws.{length-head-words, head-of-words}
 use Rattle.format.specs.declared.reader.Reading.the-variants.{Good}
-use Rattle.format.specs.Head.{lawfulHead, headOf, headWords}
-use Rattle.format.specs.HeadLaws.{HeadFacts, lawful-head-facts}
-use Rattle.format.specs.HeaderLaws.{head-of-words}
 use Rattle.format.specs.Letter.{blockShares, blockBytes, letterBytes}
-use Rattle.format.specs.LetterSizes.{blockCount, BlocksFacts, blocks-facts, length-head-words, length-block-shares, length-block-bytes}
+use Rattle.format.specs.LetterSizes.{blockCount, BlocksFacts, blocks-facts, length-block-shares, length-block-bytes}
 use Rattle.format.specs.SlotWords.{sharesAt}
 use Rattle.format.specs.LetterBlockLaws.{sealed-append, below-block-words, block-written}
 use Rattle.format.specs.ShareLaws.{pieces-shares, below-block-shares}
@@ -62,7 +62,7 @@ module _ (h : Head) (shares : List ℕ) where
     facts = lawful-head-facts h lawful
 
     blocks : BlocksFacts (h .length)
-    blocks = blocks-facts (h .length) (facts .length-least) (facts .length-most)
+    blocks = blocks-facts (h .length) (facts .of-terms .length-least) (facts .of-terms .length-most)
 
     more : ℕ
     more = 238 * blockCount h - h .length

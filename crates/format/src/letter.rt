@@ -6,12 +6,12 @@ ghost use Prim.Native.Nat.{_+_, _-_, _<_, _≤_, min};
 ghost use lib.ListN.{length, replicate};
 ghost use Rattle.block.specs.Words.{bytesOf};
 ghost use Rattle.block.specs.Check.{sealed};
-ghost use Rattle.format.specs.Head.{lawfulHead, headWords};
+ghost use Rattle.header.specs.Head.{lawfulHead, headWords};
 ghost use Rattle.format.specs.Letter.{blocksFor, letterBytes};
-use crate::head;
-use crate::head::Head;
 use block::check::seal;
 use block::words::put_words;
+use header::head;
+use header::head::Head;
 
 // How many blocks hold l share words.
 pub fn blocks(l: usize) -> usize

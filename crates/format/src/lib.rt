@@ -1,5 +1,3 @@
-// The letter: what its header says, how it stands in a slot of 2,048 bytes, and what a slot reads as.
-pub mod head;
+// The letter: how it stands in a slot of 2,048 bytes, and what a slot reads as.
 pub mod letter;
-pub mod order;
 pub mod reader;

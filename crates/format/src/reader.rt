@@ -1,21 +1,21 @@
 // Reading a slot: whether it holds a good letter, and if not, what is wrong and where.
 ghost use mathlib.Core.Path.{_≡_};
 ghost use mathlib.Core.Bool.{true, cond};
-ghost use lib.Dec.{eqb};
 ghost use Prim.Native.Nat.{_*_, _<_, _≤_};
 ghost use lib.ListN.{length, take, drop};
 ghost use Rattle.block.specs.Words.{wordsOf};
-ghost use Rattle.format.specs.Head.{lawfulHead};
-ghost use Rattle.format.specs.Reading.{markRight, placeRight, headerRight, letterBlockNumber, sharesOf, endsInZeros, judgedFrom, readOf};
-use crate::head;
-use crate::head::Head;
-use crate::head::head_of;
+ghost use Rattle.header.specs.FirstOf.{firstOf};
+ghost use Rattle.header.specs.Head.{lawfulHead};
+ghost use Rattle.format.specs.Reading.{letterBlockNumber, sharesOf, endsInZeros, judgedFrom, readOf};
 use crate::letter::blocks;
 use crate::letter::end_of;
 use block::bounds::all_at_most;
 use block::check;
 use block::words::take_words;
-use block::words::word_at;
+use header::head::Head;
+use header::head::head_of;
+use header::rules::header_right;
+use header::rules::mark_right;
 
 // The head of a good letter; or the number of what is wrong, and the place of the block in which it is.
 pub enum Reading {
@@ -32,31 +32,6 @@ fn block_at(slot: &[u8], place: usize) -> &[u8]
     &slot[from..from + 512]
 }
 
-// Whether words 0 and 1 are a letter's.
-fn mark_right(block: &[u8]) -> bool
-    requires { ⌜ length (now block) ≡ 512 ⌝ }
-    ensures { λ r. ⌜ r ≡ markRight (wordsOf (now (block .entry))) ⌝ }
-{
-    word_at(block, 0) == 81 && word_at(block, 1) == 1
-}
-
-fn place_right(block: &[u8], place: usize) -> bool
-    requires { ⌜ (length (now block) ≡ 512) × (place < 4) ⌝ }
-    ensures { λ r. ⌜ r ≡ placeRight place (wordsOf (now (block .entry))) ⌝ }
-{
-    word_at(block, 12) == place as u16 && all_at_most(block, 13, 16, 0)
-}
-
-fn header_right(first: Head, place: usize, block: &[u8]) -> bool
-    requires { ⌜ (length (now block) ≡ 512) × (place < 4) ⌝ }
-    ensures { λ r. ⌜ r ≡ headerRight first place (wordsOf (now (block .entry))) ⌝ }
-{
-    let here = head_of(block);
-    head::lawful(here)
-        && (all_at_most(block, 6, 12, 255)
-            && (place_right(block, place) && head::same(here, first)))
-}
-
 // A number, or 0 where what it is the number of is right.
 fn unless(right: bool, number: u32) -> u32
     ensures { λ r. ⌜ r ≡ cond right 0 number ⌝ }
@@ -66,7 +41,7 @@ fn unless(right: bool, number: u32) -> u32
 
 // The first of three numbers that is not 0.
 fn first_of(one: u32, two: u32, three: u32) -> u32
-    ensures { λ r. ⌜ r ≡ cond (eqb one 0) (cond (eqb two 0) three two) one ⌝ }
+    ensures { λ r. ⌜ r ≡ firstOf one (firstOf two three) ⌝ }
 {
     if one != 0 {
         return one;

@@ -11,23 +11,17 @@ use Rattle.lists.specs.From.{from}
 use Rattle.lists.specs.KeeperSet.{keeperSet}
 use Rattle.algebra.specs.Field.{Ops}
 use Rattle.block.specs.Check.{allAtMost}
-use Rattle.format.specs.declared.order.Order.{Order}
-use Rattle.format.specs.Order.{lawfulOrder}
-use Rattle.format.specs.Head.{lawfulLength, lawfulStamp}
+use Rattle.header.specs.declared.order.Order.{Order}
+use Rattle.header.specs.FirstOf.{firstOf}
+use Rattle.header.specs.Terms.{termsNumber}
 use Rattle.tray.specs.Tray.{usable, wordOf}
 use Rattle.agree.specs.Agreement.{agreeing, needed, Reaches, constants}
 use Rattle.join.specs.declared.Joined.{Joined}
 
--- the refusals that need no letter: 1, 2, 3, 4
+-- the refusals that need no letter: 1, 2, 3 of what is told, then 4 of what is lent
 unfoldable pub joinRefusal : Order → ℕ → ℕ → List ℕ → List ℕ → ℕ
 joinRefusal order stamp l tray room =
-    cond (lawfulOrder order)
-    (cond (lawfulLength l)
-    (cond (lawfulStamp stamp)
-    (cond (eqb (length tray) (2048 * order .n) && eqb (length room) l) 0 4)
-    3)
-    2)
-    1
+    firstOf (termsNumber order stamp l) (cond (eqb (length tray) (2048 * order .n) && eqb (length room) l) 0 4)
 
 -- "The result has the number, m, need, and the keepers that match as a 16-bit set"
 abbrev pub answer : ℕ → ℕ → ℕ → ℕ → Joined

@@ -9,7 +9,7 @@ use Rattle.lists.specs.KeeperSet.{member, keeperSet}
 use Rattle.lists.specs.KeeperSetLaws.{keeper-set-lt, member-keeper-set, member-past}
 use Rattle.algebra.specs.Field.{Ops}
 use Rattle.weigh.specs.Weigh.{rowWord}
-use Rattle.format.specs.declared.order.Order.{Order}
+use Rattle.header.specs.declared.order.Order.{Order}
 use Rattle.agree.specs.ScanLaws.{SameScan}
 use Rattle.tray.specs.Tray.{usable, wordOf}
 use Rattle.tray.specs.Scan.{Scanned}
@@ -37,4 +37,4 @@ module _ (order : Order) (stamp l : ℕ) (tray : List ℕ) (set : ℕ) (rows : L
       → Outcome O (order .t) (order .f) 16 (member set) (rowWord rows) (length room) room result left → JoinDone O order stamp l tray room result left
   scanned-done {room = room} e o =
       let facts = accepted-facts order stamp l tray room e in
-      judged e (scanned-outcome (facts .of-order .n-most) (rw (facts .room-lent) at o))
+      judged e (scanned-outcome (facts .of-terms .of-order .n-most) (rw (facts .room-lent) at o))

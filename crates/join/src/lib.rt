@@ -11,7 +11,7 @@ use crate::refusal::refusal;
 use crate::secret::reveal;
 use agree::agreement::agreement;
 use agree::agreement::need_of;
-use format::order::Order;
+use header::order::Order;
 use tray::scan;
 
 pub mod bytes;

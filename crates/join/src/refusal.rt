@@ -5,8 +5,8 @@ ghost use Prim.Native.Nat.{_*_, _≤_};
 ghost use lib.Dec.{eqb};
 ghost use lib.ListN.{length};
 ghost use Rattle.join.specs.Join.{joinRefusal};
-use format::order;
-use format::order::Order;
+use header::order::Order;
+use header::terms::terms_number;
 
 // Whether the tray and the room are as large as the order and the length ask.
 fn lent_right(o: Order, l: usize, tray: &[u8], room: &[u8]) -> bool
@@ -20,17 +20,9 @@ fn lent_right(o: Order, l: usize, tray: &[u8], room: &[u8]) -> bool
 pub fn refusal(o: Order, stamp: u32, l: usize, tray: &[u8], room: &[u8]) -> u32
     ensures { λ r. ⌜ r ≡ joinRefusal o stamp l (now (tray .entry)) (now (room .entry)) ⌝ }
 {
-    if !order::lawful(o) {
-        return 1;
-    }
-    if l < 1 {
-        return 2;
-    }
-    if 952 < l {
-        return 2;
-    }
-    if stamp < 1 {
-        return 3;
+    let told = terms_number(o, stamp, l);
+    if told != 0 {
+        return told;
     }
     if lent_right(o, l, tray, room) { 0 } else { 4 }
 }

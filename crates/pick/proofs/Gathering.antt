@@ -7,7 +7,7 @@ use native.Mathlib.Omega.{arith}
 use lib.ListN.{length, getD, set, length-set}
 use lib.Seq.{getD-set-same, getD-set-other}
 use borrow.Author.Count.{below-more}
-use Rattle.format.specs.declared.order.Order.{Order}
+use Rattle.header.specs.declared.order.Order.{Order}
 use Rattle.format.specs.Reading.{readOf}
 use Rattle.tray.specs.Tray.{slotOf}
 use Rattle.pick.specs.Keys.{keyRead, keyAt, KeysOf}

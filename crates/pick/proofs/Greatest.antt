@@ -9,7 +9,7 @@ use lib.Dec.{leb, ltb}
 use lib.ListN.{getD}
 use borrow.Author.Count.{below-more}
 use borrow.Author.Tests.{ltb-true, ltb-false, leb-true, le-leb}
-use Rattle.format.specs.Passing.{and-left, and-right}
+use Rattle.header.specs.Passing.{and-left, and-right}
 use Rattle.pick.specs.Keys.{sizeOf, comesNext, BestOf}
 
 first-fails : (a b : Bool) → (a && b) ≡ false → b ≡ true → a ≡ false

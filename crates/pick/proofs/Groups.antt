@@ -12,7 +12,7 @@ use Rattle.lists.specs.Chosen.{chosen, length-chosen, chosen-in, chosen-passes}
 use Rattle.lists.specs.Count.{count, count-same}
 use Rattle.lists.specs.From.{from, from-in}
 use Rattle.lists.specs.Member.{in-getD}
-use Rattle.format.specs.declared.order.Order.{Order}
+use Rattle.header.specs.declared.order.Order.{Order}
 use Rattle.tray.specs.Tray.{usable}
 use Rattle.pick.specs.Keys.{keyOf, sizeOf, KeysOf}
 use Rattle.pick.specs.Pick.{groupSize}

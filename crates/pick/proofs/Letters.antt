@@ -5,11 +5,11 @@ use mathlib.Core.Path.{_≡_, refl, ap, _∙_}
 use mathlib.Core.Bool.{Bool, true, false, cond}
 use mathlib.Core.List.{List}
 use native.Mathlib.Omega.{arith}
-use Rattle.format.specs.declared.order.Order.{Order}
+use Rattle.header.specs.declared.order.Order.{Order}
+use Rattle.header.specs.Head.{sameHead}
+use Rattle.header.specs.HeadLaws.{same-head-equal, equal-same-head}
 use Rattle.format.specs.declared.reader.Reading.{Reading}
 use Rattle.format.specs.declared.reader.Reading.the-variants.{Good, Bad}
-use Rattle.format.specs.Head.{sameHead}
-use Rattle.format.specs.HeadLaws.{same-head-equal, equal-same-head}
 use Rattle.format.specs.Reading.{readOf}
 use Rattle.tray.specs.Tray.{headFor, slotOf, usable}
 use Rattle.tray.specs.UsableLaws.{usable-reads, reads-usable, usable-facts}
@@ -51,7 +51,7 @@ module _ (order : Order) (tray : List ℕ) (k : ℕ) where
   pub key-usable : (stamp l : ℕ) → 1 ≤ stamp → l ≤ 952 → keyAt order tray k ≡ keyOf stamp l → usable order stamp l tray (k + 1) ≡ true
   key-usable stamp l least short e =
       let letter = key-letter (omega arith) in
-      let facts = usable-facts order (letter .stamp) (letter .length) tray (k + 1) (letter .stands) in
+      let facts = usable-facts order (letter .stamp) (letter .length) tray (k + 1) (letter .stands) .of-terms in
       let key = usable-key (letter .stamp) (letter .length) (letter .stands) in
       let one : letter .stamp ≡ stamp = omega (arith, facts .length-most) in
       let two : letter .length ≡ l = omega (arith, facts .length-most) in

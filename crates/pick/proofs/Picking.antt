@@ -9,7 +9,7 @@ use native.Mathlib.Omega.{arith}
 use lib.Dec.{eqb}
 use lib.ListN.{getD}
 use borrow.Author.Tests.{eqb-true, eq-eqb, ne-eqb}
-use Rattle.format.specs.declared.order.Order.{Order}
+use Rattle.header.specs.declared.order.Order.{Order}
 use Rattle.tray.specs.Tray.{usable}
 use Rattle.tray.specs.UsableLaws.{usable-facts}
 use Rattle.pick.specs.Keys.{keyOf, keyAt, sizeOf, KeysOf, BestOf, answerOf}
@@ -48,7 +48,7 @@ module _ {order : Order} {tray keys : List ℕ} {best : ℕ} (are : KeysOf order
   large-most : (stamp l : ℕ) → Large order tray stamp l → (l ≤ 952) × (1 ≤ stamp) × (keyOf stamp l ≤ best)
   large-most stamp l large =
       let one = some-passing (usable order stamp l tray) (order .n) (omega arith) in
-      let facts = usable-facts order stamp l tray (one .place + 1) (one .passes) in
+      let facts = usable-facts order stamp l tray (one .place + 1) (one .passes) .of-terms in
       let key = are .at (one .place) (one .within) ∙ usable-key order tray (one .place) stamp l (one .passes) in
       let size = group-size are stamp l (facts .stamp-least) (facts .length-most) in
       let most = greatest .most (one .place) (one .within) in
@@ -57,7 +57,7 @@ module _ {order : Order} {tray keys : List ℕ} {best : ℕ} (are : KeysOf order
   -- the group of a letter whose key is the greatest
   group-of : (k : ℕ) (letter : Letter order tray k) → keyAt order tray k ≡ best → 1 ≤ best → Group order tray best
   group-of k letter here some =
-      let facts = usable-facts order (letter .stamp) (letter .length) tray (k + 1) (letter .stands) in
+      let facts = usable-facts order (letter .stamp) (letter .length) tray (k + 1) (letter .stands) .of-terms in
       let key : best ≡ keyOf (letter .stamp) (letter .length) = sym here ∙ usable-key order tray k (letter .stamp) (letter .length) (letter .stands) in
       let size = group-size are (letter .stamp) (letter .length) (facts .stamp-least) (facts .length-most) in
       record {

@@ -8,10 +8,10 @@ use lib.Dec.{eqb, leb, ltb}
 use lib.ListN.{getD}
 use Rattle.lists.specs.Count.{count}
 use Rattle.lists.specs.From.{from}
-use Rattle.format.specs.declared.order.Order.{Order}
+use Rattle.header.specs.declared.order.Order.{Order}
+use Rattle.header.specs.Head.{sameHead}
 use Rattle.format.specs.declared.reader.Reading.{Reading}
 use Rattle.format.specs.declared.reader.Reading.the-variants.{Good, Bad}
-use Rattle.format.specs.Head.{sameHead}
 use Rattle.format.specs.Reading.{readOf}
 use Rattle.tray.specs.Tray.{headFor, slotOf}
 use Rattle.pick.specs.declared.Picked.{Picked}

@@ -9,8 +9,8 @@ use lib.Dec.{eqb}
 use lib.ListN.{length}
 use Rattle.lists.specs.Count.{count}
 use Rattle.lists.specs.From.{from}
-use Rattle.format.specs.declared.order.Order.{Order}
-use Rattle.format.specs.Order.{lawfulOrder}
+use Rattle.header.specs.declared.order.Order.{Order}
+use Rattle.header.specs.Order.{lawfulOrder}
 use Rattle.tray.specs.Tray.{usable}
 use Rattle.pick.specs.declared.Picked.{Picked}
 

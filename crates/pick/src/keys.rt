@@ -4,10 +4,10 @@ ghost use Prim.Native.Nat.{_*_, _≤_};
 ghost use lib.ListN.{length};
 ghost use Rattle.format.specs.Reading.{readOf};
 ghost use Rattle.pick.specs.Keys.{keyOf, keyRead, KeysOf};
-use format::head;
-use format::order::Order;
 use format::reader::Reading;
 use format::reader::read;
+use header::head;
+use header::order::Order;
 use tray::head_for;
 use tray::slot_of;
 

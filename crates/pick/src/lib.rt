@@ -5,8 +5,8 @@ ghost use lib.ListN.{length};
 ghost use Rattle.pick.specs.Keys.{sizeOf, comesNext, BestOf, answerOf};
 ghost use Rattle.pick.specs.Pick.{pickRefusal, PickDone};
 use crate::keys::gather;
-use format::order;
-use format::order::Order;
+use header::order;
+use header::order::Order;
 
 mod keys;
 

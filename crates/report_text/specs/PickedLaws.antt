@@ -4,7 +4,7 @@ use mathlib.Core.Path.{_≡_, refl}
 use mathlib.Core.List.{List}
 use native.Mathlib.Omega.{arith}
 use Prim.Native.Nat.{ℕ}
-use Rattle.format.specs.declared.order.Order.{Order}
+use Rattle.header.specs.declared.order.Order.{Order}
 use Rattle.pick.specs.declared.Picked.{Picked}
 use Rattle.pick.specs.Pick.{picked, PickDone, refused, none, chosen}
 use Rattle.pick.specs.PickedLaws.{large-length}

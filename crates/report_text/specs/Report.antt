@@ -13,7 +13,7 @@ use Rattle.field.specs.Modulo.{mod257}
 use Rattle.lines.specs.declared.line.Standing.{Standing}
 use Rattle.lines.specs.declared.line.Standing.the-variants.{Absent, Present, Agrees, Differs}
 use Rattle.lines.specs.Lines.{stampLine, keeperLine, countLine, answerLine, wordOf}
-use Rattle.format.specs.declared.order.Order.{Order}
+use Rattle.header.specs.declared.order.Order.{Order}
 use Rattle.tray.specs.Tray.{usable}
 use Rattle.pick.specs.Pick.{PickDone, picked}
 use Rattle.join.specs.declared.Joined.{Joined}

@@ -12,7 +12,7 @@ use Rattle.lists.specs.KeeperSetLaws.{member-keeper-set}
 use Rattle.lists.specs.Pieces.{pieces, pieces-same}
 use Rattle.lines.specs.Lines.{stampLine, keeperLine, countLine, answerLine, wordOf}
 use Rattle.lines.specs.LineLaws.{length-keeper-line}
-use Rattle.format.specs.declared.order.Order.{Order}
+use Rattle.header.specs.declared.order.Order.{Order}
 use Rattle.tray.specs.Tray.{usable}
 use Rattle.join.specs.declared.Joined.{Joined}
 use Rattle.report_text.specs.Report.{standing, told, lines}

@@ -5,7 +5,7 @@ ghost use Rattle.lists.specs.KeeperSet.{keeperSet};
 ghost use Rattle.tray.specs.Tray.{usable};
 ghost use Rattle.report_text.specs.Joined.{Joinable, JoinedReported};
 use crate::line::put_lines;
-use format::order::Order;
+use header::order::Order;
 use join::join;
 use tray::scan;
 

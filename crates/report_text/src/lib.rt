@@ -4,7 +4,7 @@ ghost use Prim.Native.Nat.{_≤_};
 ghost use lib.ListN.{length};
 ghost use Rattle.report_text.specs.Report.{orderIn, Reported};
 use crate::joined::report_joined;
-use format::order::Order;
+use header::order::Order;
 use lines::line::put_answer_line;
 use pick::pick;
 

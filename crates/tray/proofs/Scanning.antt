@@ -15,7 +15,7 @@ use Rattle.lists.specs.KeeperSet.{keeperSet}
 use Rattle.lists.specs.KeeperSetLaws.{keeper-set-lt, keeper-set-joined, keeper-set-skipped, joined-below}
 use Rattle.lists.specs.Patched.{patched, length-patched, below-patched}
 use Rattle.lists.specs.PatchedAt.{patched-before, patched-in}
-use Rattle.format.specs.declared.order.Order.{Order}
+use Rattle.header.specs.declared.order.Order.{Order}
 use Rattle.format.specs.Reading.{sharesOf}
 use Rattle.format.specs.GoodWritten.{Written, good-written}
 use Rattle.tray.specs.Tray.{headFor, slotOf, usable, wordOf}

@@ -7,7 +7,7 @@ use mathlib.Core.List.{List}
 use lib.ListN.{length, getD}
 use Rattle.lists.specs.Below.{Below}
 use Rattle.lists.specs.KeeperSet.{keeperSet}
-use Rattle.format.specs.declared.order.Order.{Order}
+use Rattle.header.specs.declared.order.Order.{Order}
 use Rattle.tray.specs.Tray.{usable, wordOf}
 
 -- at most 16 keepers and 952 words of each; a slot for each keeper; room for 16 rows of 952 field words

@@ -4,11 +4,11 @@ use Prim.Native.Nat.{ℕ, _-_, _*_}
 use mathlib.Core.Bool.{Bool, false}
 use mathlib.Core.List.{List}
 use lib.ListN.{getD, take, drop}
-use Rattle.format.specs.declared.order.Order.{Order}
-use Rattle.format.specs.declared.head.Head.{Head}
+use Rattle.header.specs.declared.order.Order.{Order}
+use Rattle.header.specs.declared.head.Head.{Head}
+use Rattle.header.specs.Head.{sameHead}
 use Rattle.format.specs.declared.reader.Reading.{Reading}
 use Rattle.format.specs.declared.reader.Reading.the-variants.{Good, Bad}
-use Rattle.format.specs.Head.{sameHead}
 use Rattle.format.specs.Reading.{readOf, sharesOf}
 
 -- "A tray is n slots, slot number x belonging to keeper x." A slot is 2,048 bytes.

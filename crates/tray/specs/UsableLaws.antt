@@ -4,11 +4,11 @@ use Prim.Native.Nat.{ℕ}
 use mathlib.Core.Path.{_≡_, refl, ap}
 use mathlib.Core.Bool.{true, false≢true}
 use mathlib.Core.List.{List}
-use Rattle.format.specs.declared.order.Order.{Order}
-use Rattle.format.specs.declared.head.Head.{Head}
+use Rattle.header.specs.declared.order.Order.{Order}
+use Rattle.header.specs.declared.head.Head.{Head}
+use Rattle.header.specs.HeadLaws.{HeadFacts, lawful-head-facts, same-head-equal, equal-same-head}
 use Rattle.format.specs.declared.reader.Reading.{Reading}
 use Rattle.format.specs.declared.reader.Reading.the-variants.{Good, Bad}
-use Rattle.format.specs.HeadLaws.{HeadFacts, lawful-head-facts, same-head-equal, equal-same-head}
 use Rattle.format.specs.Reading.{readOf}
 use Rattle.format.specs.ReadingBounds.{good-lawful}
 use Rattle.tray.specs.Tray.{headFor, readsAs, slotOf, usable}

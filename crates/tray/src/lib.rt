@@ -4,12 +4,12 @@ ghost use Prim.Native.Nat.{_*_, _≤_};
 ghost use lib.ListN.{length};
 ghost use Rattle.tray.specs.Tray.{slotOf, headFor};
 ghost use Rattle.tray.specs.Scan.{Scannable, Scanned};
-use format::head;
-use format::head::Head;
-use format::order::Order;
 use format::reader::Reading;
 use format::reader::read;
 use format::reader::take_shares;
+use header::head;
+use header::head::Head;
+use header::order::Order;
 
 // The slot of keeper x.
 pub fn slot_of(tray: &[u8], x: usize) -> &[u8]

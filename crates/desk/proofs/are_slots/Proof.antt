@@ -1,6 +1,6 @@
 -- `desk::are_slots` meets its contract: its tests are the definition's, in their order.
 -- Assumes nothing.
-use Rattle.format.proofs.Chain.{chain}
+use Rattle.header.specs.Chain.{chain}
 use Rattle.desk.proofs.are_slots.Statement.{statement}
 use Rattle.desk.proofs.are_slots.Tie as tie
 

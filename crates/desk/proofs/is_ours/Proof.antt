@@ -1,7 +1,7 @@
 -- `desk::is_ours` meets its contract: its tests are the definition's, in their order.
 -- Assumes nothing.
 use borrow.Author.Needs.{needs}
-use Rattle.format.proofs.Chain.{chain}
+use Rattle.header.specs.Chain.{chain}
 use Rattle.desk.proofs.is_ours.Statement.{statement}
 use Rattle.desk.proofs.is_ours.Tie as tie
 

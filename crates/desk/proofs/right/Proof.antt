@@ -1,7 +1,7 @@
 -- `desk::right` meets its contract: its tests are the definition's, in their order.
 -- Assumes nothing.
 use borrow.Author.Needs.{needs}
-use Rattle.format.proofs.Chain.{chain}
+use Rattle.header.specs.Chain.{chain}
 use Rattle.desk.proofs.right.Statement.{statement}
 use Rattle.desk.proofs.right.Tie as tie
 

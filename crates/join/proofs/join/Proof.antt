@@ -39,7 +39,7 @@ slice-aggregate-scan c = search needs
 scan-requires : tie.Need-scan-requires
 scan-requires c κs =
     let f = facts (c .before) in
-    record { few = f .of-order .n-most; short = f .length-most; slots = f .tray-lent; room = refl; clean = below-zeros 256 15232 }
+    record { few = f .of-terms .of-order .n-most; short = f .of-terms .length-most; slots = f .tray-lent; room = refl; clean = below-zeros 256 15232 }
 
 slice-aggregate-judge : tie.Need-slice-aggregate-judge
 slice-aggregate-judge c = search needs
@@ -48,7 +48,7 @@ judge-requires : tie.Need-judge-requires
 judge-requires c κs =
     let scanned = c .before .before .before .scan .ensures in
     let f = facts (c .before .before .before .before .before) in
-    (record { whole = scanned .size; words = scanned .below }, (f .of-order .t-most, (f .of-order .f-most, rw (f .room-lent) (f .length-most))))
+    (record { whole = scanned .size; words = scanned .below }, (f .of-terms .of-order .t-most, (f .of-terms .of-order .f-most, rw (f .room-lent) (f .of-terms .length-most))))
 
 same-length-2 : tie.Need-same-length-2
 same-length-2 c = search needs

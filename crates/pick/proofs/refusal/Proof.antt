@@ -4,7 +4,7 @@ use mathlib.Core.Path.{sym, _∙_}
 use native.Mathlib.Omega.{arith}
 use borrow.Author.Needs.{needs}
 use borrow.Author.Tests.{eq-eqb, ne-eqb}
-use Rattle.format.specs.OrderLaws.{lawful-order-facts}
+use Rattle.header.specs.OrderLaws.{lawful-order-facts}
 use Rattle.pick.specs.Pick.{pickRefusal}
 use Rattle.pick.proofs.refusal.Statement.{statement}
 use Rattle.pick.proofs.refusal.Tie as tie

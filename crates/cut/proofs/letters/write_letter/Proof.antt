@@ -3,7 +3,7 @@
 use Prim.Native.Nat.{_≤_}
 use native.Mathlib.Omega.{arith}
 use Rattle.field.specs.Modulo.{mod257}
-use Rattle.format.specs.HeadLaws.{lawful-head-facts}
+use Rattle.header.specs.HeadLaws.{lawful-head-facts}
 use Rattle.cut.specs.LetterLaws.{letter-written}
 use borrow.Author.Needs.{needs}
 use Rattle.cut.proofs.letters.write_letter.Statement.{statement}

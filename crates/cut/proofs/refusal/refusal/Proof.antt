@@ -1,53 +1,33 @@
--- `cut::refusal::refusal` meets its contract: each test that it passes is one of the definition's.
+-- `cut::refusal::refusal` meets its contract: what is told first, then what is lent.
 -- Assumes nothing.
 use mathlib.Core.Path.{_≡_, sym, _∙_}
-use mathlib.Core.Bool.{true}
-use native.Mathlib.Omega.{arith}
+use lib.ListN.{length}
 use borrow.Author.Needs.{needs}
-use borrow.Author.Tests.{not-true, not-false, le-leb, lt-leb}
-use Rattle.format.specs.Order.{lawfulOrder}
-use Rattle.format.specs.OrderLaws.{lawful-order-facts}
+use Rattle.header.specs.FirstOf.{first-right, first-wrong}
+use Rattle.header.specs.Terms.{termsNumber}
+use Rattle.header.specs.TermsLaws.{told-facts}
 use Rattle.cut.specs.Cut.{cutNumber}
 use Rattle.cut.proofs.refusal.refusal.Statement.{statement}
 use Rattle.cut.proofs.refusal.refusal.Tie as tie
 
-lawful : (c : tie.Else1) → lawfulOrder (c .before .before .before .before .before .args .o) ≡ true
-lawful c = sym (c .before .lawful .ensures) ∙ not-false _ (c .if1 .left)
+told-right : (c : tie.Else1) → let a = c .before .before .before .before .before .args in termsNumber (a .o) (a .stamp) (length (a .secret .now)) ≡ 0
+told-right c = sym (c .before .terms-number .ensures) ∙ c .if1 .left
 
-lawful-requires : tie.Need-lawful-requires
-lawful-requires c κs = search needs
+terms-number-requires : tie.Need-terms-number-requires
+terms-number-requires c κs = search needs
 
 returns : tie.Need-returns
 unfolding cutNumber
-returns c = rw (sym (c .before .lawful .ensures) ∙ not-true _ (c .if1 .taken))
-
-returns-2 : tie.Need-returns-2
-unfolding cutNumber
-returns-2 c = rw (lawful (c .before), lt-leb _ _ (c .if2 .taken))
-
-returns-3 : tie.Need-returns-3
-unfolding cutNumber
-returns-3 c = rw (lawful (c .before .before), le-leb _ _ (c .before .if2 .left), lt-leb _ _ (c .if3 .taken))
-
-returns-4 : tie.Need-returns-4
-unfolding cutNumber
-returns-4 c =
-    rw (lawful (c .before .before .before), le-leb _ _ (c .before .before .if2 .left), le-leb _ _ (c .before .if3 .left), lt-leb _ _ (c .if4 .taken))
+returns c = rw (← c .before .terms-number .ensures) (sym (first-wrong _ _ (c .if1 .taken)))
 
 lent-number-requires : tie.Need-lent-number-requires
 lent-number-requires c κs =
-    let facts = lawful-order-facts _ (lawful (c .before .before .before)) in
-    (facts .t-most, (facts .n-most, c .before .if3 .left))
+    let facts = told-facts _ _ _ (told-right c) in
+    (facts .of-order .t-most, (facts .of-order .n-most, facts .length-most))
 
-returns-5 : tie.Need-returns-5
+returns-2 : tie.Need-returns-2
 unfolding cutNumber
-returns-5 c =
-    let tests = c .before .before .before .before in
-    let start = tests .before .before .before .before .before in
-    rw (lawful tests, le-leb _ _ (c .before .before .before .if2 .left), le-leb _ _ (c .before .before .if3 .left), le-leb _ _ (c .before .if4 .left), le-leb (start .args .stamp) 4294967295 (omega arith))
-    (c .lent-number .ensures)
+returns-2 c = rw (first-right _ _ (told-right (c .before))) (c .lent-number .ensures)
 
 pub refusal-spec : {M : Type 1} → statement M
-refusal-spec =
-    tie.close
-    (tie.spec lawful-requires returns returns-2 returns-3 returns-4 lent-number-requires returns-5)
+refusal-spec = tie.close (tie.spec terms-number-requires returns lent-number-requires returns-2)

@@ -25,7 +25,7 @@ facts c = accepted-facts _ _ _ _ _ (accepted c)
 
 -- the longest secret's columns
 most : (c : tie.Then1) → let args = start (c .before) .args in length (args .secret .now) * (args .o .t + 1) ≤ 952 * 8
-most c = let known = facts c in mul-le-mul {n₂ = 952} {m₂ = 8} (known .length-most) (omega arith)
+most c = let known = facts c in mul-le-mul {n₂ = 952} {m₂ = 8} (known .of-terms .length-most) (omega arith)
 
 refusal-requires : tie.Need-refusal-requires
 refusal-requires c κs = search needs
@@ -43,15 +43,15 @@ slice-aggregate-fill : tie.Need-slice-aggregate-fill
 slice-aggregate-fill c = sym (length-take-le _ _ (most (c .before .before)))
 
 array-borrow-prefix-row : tie.Need-array-borrow-prefix-row
-array-borrow-prefix-row c = facts (c .before .before) .length-most
+array-borrow-prefix-row c = facts (c .before .before) .of-terms .length-most
 
 slice-aggregate-fill-2 : tie.Need-slice-aggregate-fill-2
-slice-aggregate-fill-2 c = sym (length-take-le _ _ (facts (c .before .before .before) .length-most))
+slice-aggregate-fill-2 c = sym (length-take-le _ _ (facts (c .before .before .before) .of-terms .length-most))
 
 fill-requires : tie.Need-fill-requires
 fill-requires c κs =
     let then = c .before .before .before .before in
-    (accepted then, (length-take-le _ _ (most then), length-take-le _ _ (facts then .length-most)))
+    (accepted then, (length-take-le _ _ (most then), length-take-le _ _ (facts then .of-terms .length-most)))
 
 same-length : tie.Need-same-length
 same-length c = search needs

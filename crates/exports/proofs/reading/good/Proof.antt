@@ -2,7 +2,7 @@
 -- Assumes nothing.
 use native.Mathlib.Omega.{arith}
 use borrow.Author.Needs.{needs}
-use Rattle.format.specs.HeadLaws.{lawful-head-facts}
+use Rattle.header.specs.HeadLaws.{lawful-head-facts}
 use Rattle.exports.proofs.reading.good.Statement.{statement}
 use Rattle.exports.proofs.reading.good.Tie as tie
 

@@ -5,7 +5,7 @@ use mathlib.Core.Path.{sym, _∙_}
 use native.Mathlib.Omega.{arith}
 use lib.ListN.{length-take, length-drop}
 use borrow.Author.Needs.{needs}
-use Rattle.format.specs.HeadLaws.{lawful-head-facts}
+use Rattle.header.specs.HeadLaws.{lawful-head-facts}
 use Rattle.format.proofs.Counting.{counted}
 use Rattle.format.proofs.Writing.{WrittenTo, written-none, written-next, written-all}
 use Rattle.format.proofs.letter.write.Statement.{statement}

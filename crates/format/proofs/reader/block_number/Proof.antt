@@ -1,9 +1,6 @@
 -- `reader::block_number` meets its contract: the first of its numbers that is not 0 is the definition's.
 -- Assumes nothing.
-use Prim.Native.Nat.{ℕ}
-use mathlib.Core.Path.{_≡_, refl, _∙_}
-use mathlib.Core.Bool.{Bool, true, false, cond}
-use lib.Dec.{eqb}
+use mathlib.Core.Path.{_∙_}
 use borrow.Author.Needs.{needs}
 use Rattle.format.specs.Reading.{letterBlockNumber}
 use Rattle.format.proofs.reader.block_number.Statement.{statement}
@@ -27,19 +24,12 @@ unless-requires-2 c κs = search needs
 first-of-requires : tie.Need-first-of-requires
 first-of-requires c κs = search needs
 
-in-order : (number : ℕ) (mark header : Bool)
-    → cond (eqb number 0) (cond (eqb (cond mark 0 11) 0) (cond header 0 12) (cond mark 0 11)) number ≡ cond (eqb number 0) (cond mark (cond header 0 12) 11) number
-in-order number true header = refl
-in-order number false header = refl
-
 returns : tie.Need-returns
 unfolding letterBlockNumber
 returns c =
     let b = c .before in
-    let k = b .before .before .before .before in
     c .first-of .ensures
-    ∙ rw (b .unless2 .ensures, b .before .before .unless .ensures, ← k .number .ensures, ← b .before .before .before .mark-right .ensures, ← b .before .header-right .ensures)
-    (in-order (k .number .result) (b .before .before .before .mark-right .result) (b .before .header-right .result))
+    ∙ rw (b .unless2 .ensures, b .before .before .unless .ensures, b .before .before .before .before .number .ensures, b .before .before .before .mark-right .ensures, b .before .header-right .ensures)
 
 pub block-number-spec : {M : Type 1} → statement M
 block-number-spec =

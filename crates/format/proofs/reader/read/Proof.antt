@@ -4,7 +4,7 @@ use mathlib.Core.Path.{_≡_, sym, _∙_}
 use native.Mathlib.Omega.{arith}
 use borrow.Author.Tests.{eq-eqb, ne-eqb}
 use borrow.Author.Needs.{needs}
-use Rattle.format.specs.Head.{headOf}
+use Rattle.header.specs.Head.{headOf}
 use Rattle.format.specs.LetterBlockLaws.{block-read}
 use Rattle.format.specs.SlotWords.{length-block-words}
 use Rattle.format.specs.Reading.{blockWords, letterBlockNumber, readOf}

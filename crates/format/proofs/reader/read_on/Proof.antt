@@ -4,7 +4,7 @@ use borrow.Author.Needs.{needs}
 use Prim.Native.Nat.{_-_}
 use mathlib.Core.Path.{_≡_, sym, _∙_}
 use native.Mathlib.Omega.{arith}
-use Rattle.format.specs.HeadLaws.{lawful-head-facts}
+use Rattle.header.specs.HeadLaws.{lawful-head-facts}
 use Rattle.format.specs.Reading.{blockWords, letterBlockNumber, ending}
 use Rattle.format.proofs.Counting.{counted}
 use Rattle.format.proofs.Judging.{JudgedTo, judged-first, judged-next, judged-bad, judged-all}
@@ -27,7 +27,7 @@ blocks-requires c κs = omega (arith, lawful-head-facts _ (c .before .pre .1))
 loop-holds : tie.Need-loop-holds Inv-loop μ-loop
 loop-holds c =
     let facts = lawful-head-facts _ (c .before .before .pre .1) in
-    judged-first _ _ _ (counted _ _ (facts .length-most) (c .blocks2 .ensures))
+    judged-first _ _ _ (counted _ _ (facts .of-terms .length-most) (c .blocks2 .ensures))
 
 block-at-requires : tie.Need-block-at-requires Inv-loop μ-loop
 block-at-requires c κs = search needs
@@ -50,7 +50,7 @@ loop-again c = judged-next _ _ _ _ (c .before .before .before .before .loop .inv
 ends-in-zeros-requires : tie.Need-ends-in-zeros-requires Inv-loop μ-loop
 ends-in-zeros-requires c κs =
     let facts = lawful-head-facts (c .before .before .before .before .args .first) (c .before .before .before .before .pre .1) in
-    (c .before .before .before .before .pre .0, facts .length-least, facts .length-most)
+    (c .before .before .before .before .pre .0, facts .of-terms .length-least, facts .of-terms .length-most)
 
 returns-2 : tie.Need-returns-2 Inv-loop μ-loop
 unfolding ending

@@ -2,7 +2,7 @@
 -- Assumes nothing.
 use mathlib.Core.Path.{sym, _∙_}
 use borrow.Author.Needs.{needs}
-use Rattle.format.specs.HeadLaws.{lawful-head-facts}
+use Rattle.header.specs.HeadLaws.{lawful-head-facts}
 use Rattle.format.specs.ReadingBounds.{good-lawful}
 use Rattle.pick.proofs.keys.key_in.Statement.{statement}
 use Rattle.pick.proofs.keys.key_in.Tie as tie
@@ -29,7 +29,7 @@ key-of-requires : tie.Need-key-of-requires
 key-of-requires c κs =
     let given = c .before .before .before .before .h .given in
     let read = sym (c .before .before .before .before .before .before .read .ensures) ∙ given .1 in
-    lawful-head-facts _ (good-lawful _ (given .0 .0) read) .length-most
+    lawful-head-facts _ (good-lawful _ (given .0 .0) read) .of-terms .length-most
 
 returns-2 : tie.Need-returns-2
 returns-2 c =

@@ -1,0 +1,45 @@
+-- The head: what the header words of every block of a letter say.
+-- Assumes nothing.
+use Prim.Native.Nat.{ℕ, _+_, _*_, _/_, _%_, _^_}
+use mathlib.Core.Bool.{Bool, _&&_}
+use mathlib.Core.List.{List, [], _∷_}
+use lib.Dec.{eqb}
+use lib.ListN.{getD}
+use Rattle.header.specs.declared.order.Order.{Order}
+use Rattle.header.specs.declared.head.Head.{Head}
+use Rattle.header.specs.Order.{lawfulOrder, lawfulKeeper, sameOrder}
+use Rattle.header.specs.Terms.{lawfulStamp, lawfulLength}
+
+unfoldable pub lawfulHead : Head → Bool
+lawfulHead h = lawfulOrder (h .order) && (lawfulKeeper (h .order) (h .keeper) && (lawfulStamp (h .stamp) && lawfulLength (h .length)))
+
+unfoldable pub sameHead : Head → Head → Bool
+sameHead a b = sameOrder (a .order) (b .order) && (eqb (a .keeper) (b .keeper) && (eqb (a .stamp) (b .stamp) && eqb (a .length) (b .length)))
+
+-- byte k of a number, counted from the low end
+abbrev pub byteOf : ℕ → ℕ → ℕ
+byteOf k x = x / 256 ^ k % 256
+
+-- words 0..15 of block p, as the page's table has them
+unfoldable pub headWords : Head → ℕ → List ℕ
+headWords h p =
+    81 ∷ 1 ∷ h .order .t ∷ h .order .f ∷ h .order .n ∷ h .keeper
+    ∷ byteOf 3 (h .stamp) ∷ byteOf 2 (h .stamp) ∷ byteOf 1 (h .stamp) ∷ byteOf 0 (h .stamp)
+    ∷ byteOf 1 (h .length) ∷ byteOf 0 (h .length) ∷ p ∷ 0 ∷ 0 ∷ 0 ∷ []
+
+-- the low byte of word i
+abbrev pub lowByte : List ℕ → ℕ → ℕ
+lowByte ws i = getD ws i 0 % 256
+
+-- What header words say. A stamp and a length stand "one byte a word, high first"; number 12 holds those words to be bytes.
+abbrev pub orderOf : List ℕ → Order
+orderOf ws = record { t = getD ws 2 0; f = getD ws 3 0; n = getD ws 4 0 }
+
+abbrev pub stampOf : List ℕ → ℕ
+stampOf ws = lowByte ws 6 * 16777216 + lowByte ws 7 * 65536 + lowByte ws 8 * 256 + lowByte ws 9
+
+abbrev pub lengthOf : List ℕ → ℕ
+lengthOf ws = lowByte ws 10 * 256 + lowByte ws 11
+
+unfoldable pub headOf : List ℕ → Head
+headOf ws = record { order = orderOf ws; keeper = getD ws 5 0; stamp = stampOf ws; length = lengthOf ws }

@@ -1,0 +1,11 @@
+pub mod Order
+pub mod FirstOf
+pub mod Terms
+pub mod Head
+pub mod Rules
+pub mod Passing
+pub mod Chain
+pub mod OrderLaws
+pub mod TermsLaws
+pub mod HeadLaws
+pub mod HeaderLaws

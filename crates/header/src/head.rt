@@ -1,0 +1,119 @@
+// The head of a letter: what the header words of each of its blocks say.
+ghost use mathlib.Core.Path.{_≡_};
+ghost use mathlib.Core.Bool.{true};
+ghost use Prim.Native.Nat.{_<_};
+ghost use lib.ListN.{length, getD};
+ghost use Rattle.block.specs.Words.{wordsOf};
+ghost use Rattle.header.specs.Head.{lawfulHead, sameHead, headWords, orderOf, stampOf, lengthOf, headOf, lowByte};
+use crate::order;
+use crate::order::Order;
+use crate::terms::lawful_length;
+use crate::terms::lawful_stamp;
+use block::words::word_at;
+
+pub struct Head {
+    pub order: Order,
+    pub keeper: usize,
+    pub stamp: u32,
+    pub length: usize,
+}
+
+pub fn lawful(h: Head) -> bool
+    ensures { λ r. ⌜ r ≡ lawfulHead h ⌝ }
+{
+    let o = h.order;
+    order::lawful(o)
+        && (order::has_keeper(o, h.keeper) && (lawful_stamp(h.stamp) && lawful_length(h.length)))
+}
+
+pub fn same(a: Head, b: Head) -> bool
+    ensures { λ r. ⌜ r ≡ sameHead a b ⌝ }
+{
+    let here = a.order;
+    let there = b.order;
+    order::same(here, there)
+        && (a.keeper == b.keeper && (a.stamp == b.stamp && a.length == b.length))
+}
+
+// Words 0..15 of block p of a letter.
+pub fn words(h: Head, p: usize) -> [u16; 16]
+    requires { ⌜ (lawfulHead h ≡ true) × (p < 4) ⌝ }
+    ensures { λ r. ⌜ r ≡ headWords h p ⌝ }
+{
+    let o = h.order;
+    let stamp = h.stamp;
+    let length = h.length;
+    [
+        81,
+        1,
+        o.t as u16,
+        o.f as u16,
+        o.n as u16,
+        h.keeper as u16,
+        (stamp / 16777216 % 256) as u16,
+        (stamp / 65536 % 256) as u16,
+        (stamp / 256 % 256) as u16,
+        (stamp % 256) as u16,
+        (length / 256 % 256) as u16,
+        (length % 256) as u16,
+        p as u16,
+        0,
+        0,
+        0,
+    ]
+}
+
+// The low byte of word i of a block.
+fn low(block: &[u8], i: usize) -> u32
+    requires { ⌜ (length (now block) ≡ 512) × (i < 256) ⌝ }
+    ensures { λ r. ⌜ r ≡ lowByte (wordsOf (now (block .entry))) i ⌝ }
+{
+    (word_at(block, i) % 256) as u32
+}
+
+// Word i of a block.
+fn wide(block: &[u8], i: usize) -> usize
+    requires { ⌜ (length (now block) ≡ 512) × (i < 256) ⌝ }
+    ensures { λ r. ⌜ r ≡ getD (wordsOf (now (block .entry))) i 0 ⌝ }
+{
+    word_at(block, i) as usize
+}
+
+fn order_of(block: &[u8]) -> Order
+    requires { ⌜ length (now block) ≡ 512 ⌝ }
+    ensures { λ r. ⌜ r ≡ orderOf (wordsOf (now (block .entry))) ⌝ }
+{
+    Order {
+        t: wide(block, 2),
+        f: wide(block, 3),
+        n: wide(block, 4),
+    }
+}
+
+fn stamp_of(block: &[u8]) -> u32
+    requires { ⌜ length (now block) ≡ 512 ⌝ }
+    ensures { λ r. ⌜ r ≡ stampOf (wordsOf (now (block .entry))) ⌝ }
+{
+    low(block, 6) * 16777216 + low(block, 7) * 65536 + low(block, 8) * 256 + low(block, 9)
+}
+
+fn length_of(block: &[u8]) -> usize
+    requires { ⌜ length (now block) ≡ 512 ⌝ }
+    ensures { λ r. ⌜ r ≡ lengthOf (wordsOf (now (block .entry))) ⌝ }
+{
+    (low(block, 10) * 256 + low(block, 11)) as usize
+}
+
+// What the header words of a block say.
+pub fn head_of(block: &[u8]) -> Head
+    requires { ⌜ length (now block) ≡ 512 ⌝ }
+    ensures { λ r. ⌜ r ≡ headOf (wordsOf (now (block .entry))) ⌝ }
+{
+    let order = order_of(block);
+    Head {
+        order,
+        keeper: wide(block, 5),
+        stamp: stamp_of(block),
+        length: length_of(block),
+    }
+}
