@@ -7,6 +7,7 @@ pub mod Chosen
 pub mod Count
 pub mod Different
 pub mod ExactlyOne
+pub mod Filling
 pub mod From
 pub mod Lookup
 pub mod Map

@@ -1,25 +1,21 @@
--- `desk::copy` meets its contract. The loop's invariant: the first i bytes are the letter's, and the others as they were.
+-- `desk::copy` meets its contract: the slot held is filled from the front with the letter.
 -- Assumes nothing.
-use Prim.Native.Nat.{_≤_, _-_}
-use mathlib.Core.Path.{_≡_, refl, _∙_}
-use mathlib.Core.List.{_++_, append-nil}
-use native.Mathlib.Nat.{zero-add}
-use native.Mathlib.Numerals.{add-one}
-use native.Mathlib.Omega.{arith}
-use lib.ListN.{length, take, drop, length-set}
-use lib.Seq.{take-all, drop-length, paste-suc}
+use Prim.Native.Nat.{_-_}
+use mathlib.Core.Path.{refl}
+use lib.ListN.{length, getD}
 use borrow.Author.Needs.{needs}
+use Rattle.lists.specs.Filling.{Filling, filling-none, filling-more, filling-copied}
 use Rattle.desk.proofs.copy.Statement.{statement}
 use Rattle.desk.proofs.copy.Tie as tie
 
 abbrev Inv-loop : tie.InvT-loop
-Inv-loop held₀ letter i₀ held i = (i ≤ length held₀) × (length held ≡ length held₀) × (held ≡ take i letter ++ drop i held₀)
+Inv-loop held₀ letter i₀ held i = Filling (λ k. getD letter k 0) held₀ i held
 
 abbrev μ-loop : tie.MeasureT-loop
 μ-loop held₀ letter i₀ held i = length held₀ - i
 
 loop-holds : tie.Need-loop-holds Inv-loop μ-loop
-loop-holds c = (search needs, refl, refl)
+loop-holds c = filling-none
 
 shared-slice-read-held : tie.Need-shared-slice-read-held Inv-loop μ-loop
 shared-slice-read-held c = search needs
@@ -34,21 +30,13 @@ loop-less : tie.Need-loop-less Inv-loop μ-loop
 loop-less c = search needs
 
 loop-again : tie.Need-loop-again Inv-loop μ-loop
-loop-again c =
-    let here = c .before .before .loop in
-    let args = c .before .before .before .args in
-    let next = paste-suc (args .held .now) 0 (args .letter .now) (here .i) 0 (omega arith) (omega arith) in
-    (omega arith, simp length-set (here .inv .1), rw (here .inv .2, add-one) (simp zero-add at next))
+loop-again c = filling-more (c .before .before .loop .inv) (c .before .loop-test .taken) refl
 
 same-length : tie.Need-same-length Inv-loop μ-loop
 same-length c = search needs
 
 returns : tie.Need-returns Inv-loop μ-loop
-returns c =
-    let held = c .before .before .args .held .now in
-    let letter = c .before .before .args .letter .now in
-    let whole : c .before .loop .i ≡ length held = omega arith in
-    c .before .loop .inv .2 ∙ rw (whole, drop-length, append-nil) (take-all (length held) letter (omega arith))
+returns c = filling-copied (c .before .loop .inv) (c .before .before .pre) (c .loop-test .left)
 
 pub copy-spec : {M : Type 1} → statement M
 copy-spec =

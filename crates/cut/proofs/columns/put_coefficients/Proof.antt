@@ -5,7 +5,7 @@ use mathlib.Core.Path.{refl}
 use native.Mathlib.Omega.{arith}
 use lib.ListN.{length, getD}
 use Rattle.cut.specs.ColumnLaws.{word-within}
-use Rattle.cut.proofs.Filling.{Filling, filling-none, filling-more, filling-done}
+use Rattle.lists.specs.Filling.{Filling, filling-none, filling-more, filling-done}
 use borrow.Author.Needs.{needs}
 use Rattle.cut.proofs.columns.put_coefficients.Statement.{statement}
 use Rattle.cut.proofs.columns.put_coefficients.Tie as tie

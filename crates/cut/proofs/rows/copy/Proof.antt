@@ -3,7 +3,7 @@
 use Prim.Native.Nat.{_-_}
 use mathlib.Core.Path.{refl}
 use lib.ListN.{length, getD}
-use Rattle.cut.proofs.Filling.{Filling, filling-none, filling-more, filling-copied}
+use Rattle.lists.specs.Filling.{Filling, filling-none, filling-more, filling-copied}
 use borrow.Author.Needs.{needs}
 use Rattle.cut.proofs.rows.copy.Statement.{statement}
 use Rattle.cut.proofs.rows.copy.Tie as tie

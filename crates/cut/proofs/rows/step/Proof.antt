@@ -6,7 +6,7 @@ use native.Mathlib.Nat.{mul-le-mul}
 use native.Mathlib.Omega.{arith}
 use lib.ListN.{length, getD}
 use Rattle.field.specs.Modulo.{mod257}
-use Rattle.cut.proofs.Filling.{Filling, filling-none, filling-more, filling-ahead, filling-done}
+use Rattle.lists.specs.Filling.{Filling, filling-none, filling-more, filling-ahead, filling-done}
 use borrow.Author.Needs.{needs}
 use Rattle.cut.proofs.rows.step.Statement.{statement}
 use Rattle.cut.proofs.rows.step.Tie as tie
