@@ -14,9 +14,9 @@ use agree::agreement::need_of;
 use header::order::Order;
 use tray::scan;
 
-pub mod bytes;
-pub mod refusal;
-pub mod secret;
+mod bytes;
+mod refusal;
+mod secret;
 
 // "The result has the number, m, need, and the keepers that match as a 16-bit set."
 pub struct Joined {
