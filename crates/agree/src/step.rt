@@ -4,6 +4,7 @@ ghost use Prim.Native.Nat.{_+_, _<_, _≤_};
 ghost use lib.Count.{ones};
 ghost use lib.ListN.{length, getD};
 ghost use Rattle.lists.specs.KeeperSet.{member};
+ghost use Rattle.lists.specs.SameBytes.{sameBytes};
 ghost use Rattle.field.specs.Modulo.{mod257};
 ghost use Rattle.weigh.specs.Weigh.{carried, rowWord, Carriage};
 ghost use Rattle.agree.specs.Kept.{Alike, InStep};
@@ -12,11 +13,30 @@ use search::keepers::first;
 use search::keepers::has;
 use weigh::carry_row;
 
-// The first place from `start` on at which two rows of one length differ, or their length.
+// Whether two rows of one length are the same. Every word is looked at, so that many can be looked at together.
+fn same_words(a: &[u16], b: &[u16]) -> bool
+    requires { ⌜ length (now a) ≡ length (now b) ⌝ }
+    ensures { λ r. ⌜ r ≡ sameBytes (now (a .entry)) (now (b .entry)) ⌝ }
+{
+    let mut same = true;
+    let mut i = 0;
+    while i < a.len() {
+        if a[i] != b[i] {
+            same = false;
+        }
+        i += 1;
+    }
+    same
+}
+
+// The first place from `start` on at which two rows of one length differ, or their length. Most rows that are compared are the same.
 fn difference(a: &[u16], b: &[u16], start: usize) -> usize
     requires { ⌜ length (now a) ≡ length (now b) ⌝ ∗ ⌜ start ≤ length (now a) ⌝ }
     ensures { λ r. ⌜ Alike (λ j. getD (now (a .entry)) j 0) (λ j. getD (now (b .entry)) j 0) start (length (now (a .entry))) r ⌝ }
 {
+    if same_words(a, b) {
+        return a.len();
+    }
     let mut i = start;
     while i < a.len() {
         if a[i] != b[i] {

@@ -1,14 +1,16 @@
 -- To be at most a number, every word of a list: tested, and as a bound.
 -- Assumes nothing.
-use Prim.Native.Nat.{ℕ, zero, suc, _+_, _-_, _≤_, _<_}
+use Prim.Native.Nat.{ℕ, zero, suc, _+_, _<_, max}
 use mathlib.Core.Path.{_≡_, refl, sym}
-use mathlib.Core.Bool.{true, false, and-eq-true-iff}
-use mathlib.Core.List.{List, [], _∷_}
+use mathlib.Core.Bool.{true, _&&_, and-assoc, and-true, and-false, and-eq-true-iff}
+use mathlib.Core.List.{List, [], _∷_, _++_}
+use mathlib.Core.Logic.{by-cases}
+use native.Mathlib.Decide.{decLe}
 use native.Mathlib.Numerals.{add-one}
 use native.Mathlib.Omega.{arith}
 use lib.Dec.{leb, leb·zero}
-use lib.ListN.{length, getD, take, drop, replicate, length-replicate, getD-replicate}
-use lib.Seq.{ext-getD, drop-cons}
+use lib.ListN.{length, getD, take, replicate, length-replicate, getD-replicate}
+use lib.Seq.{ext-getD, take-suc}
 use borrow.Author.Tests.{le-leb, lt-leb, leb-true}
 use Rattle.lists.specs.Below.{Below, below-nil, below-head, below-tail, below-cons}
 use Rattle.block.specs.Check.{allAtMost}
@@ -37,17 +39,27 @@ at-most-zeros ws e =
     ext-getD 0 ws (replicate (length ws) 0) (sym (length-replicate (length ws) 0))
     (λ i h. omega (arith, at-most-below 0 ws e i h, getD-replicate {A = ℕ} (length ws) i 0 0 h))
 
--- of the words from i up to `to`: the first of them decides, or the rest do
-module _ (top : ℕ) (ws : List ℕ) (i to : ℕ) (before : i < to) (within : to ≤ length ws) where
-  first-rest : take (to - i) (drop i ws) ≡ getD ws i 0 ∷ take (to - (i + 1)) (drop (i + 1) ws)
-  first-rest =
-      let more : to - i ≡ suc (to - (i + 1)) = omega arith in
-      rw (more, drop-cons ws i 0 (omega arith), add-one)
+at-most-append : (top : ℕ) (xs ys : List ℕ) → allAtMost top (xs ++ ys) ≡ (allAtMost top xs && allAtMost top ys)
+unfolding allAtMost
+at-most-append top [] ys = refl
+at-most-append top (x ∷ xs) ys = rw (at-most-append top xs ys, and-assoc)
 
-  pub first-at-most : getD ws i 0 ≤ top → allAtMost top (take (to - i) (drop i ws)) ≡ allAtMost top (take (to - (i + 1)) (drop (i + 1) ws))
-  unfolding allAtMost
-  first-at-most h = rw (first-rest, le-leb (getD ws i 0) top h)
+leb-max : (a b top : ℕ) → (leb a top && leb b top) ≡ leb (max a b) top
+leb-max a b top =
+    by-cases (decLe a top)
+    (λ ha.
+    by-cases (decLe b top) (λ hb. rw (le-leb a top ha, le-leb b top hb, le-leb (max a b) top (omega arith)))
+    (λ hb. rw (lt-leb b top (omega arith), and-false, lt-leb (max a b) top (omega arith))))
+    (λ ha. rw (lt-leb a top (omega arith), lt-leb (max a b) top (omega arith)))
 
-  pub first-above : top < getD ws i 0 → allAtMost top (take (to - i) (drop i ws)) ≡ false
-  unfolding allAtMost
-  first-above h = rw (first-rest, lt-leb (getD ws i 0) top h)
+-- the largest of the first i words tells of all of them
+abbrev pub Largest : List ℕ → ℕ → ℕ → Type 0
+Largest ws i largest = (top : ℕ) → allAtMost top (take i ws) ≡ leb largest top
+
+pub largest-none : (ws : List ℕ) → Largest ws 0 0
+unfolding allAtMost
+largest-none ws top = sym (leb·zero top)
+
+pub largest-more : (ws : List ℕ) (i largest next : ℕ) → i < length ws → next ≡ max largest (getD ws i 0) → Largest ws i largest → Largest ws (i + 1) next
+unfolding allAtMost
+largest-more ws i largest next h n e top = rw (add-one, take-suc ws i 0 h, at-most-append, e top, and-true, n) (leb-max largest (getD ws i 0) top)

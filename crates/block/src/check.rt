@@ -4,8 +4,8 @@ ghost use Prim.Native.Nat.{_%_};
 ghost use lib.ListN.{length, take};
 ghost use Rattle.block.specs.Words.{bytesOf, wordsOf};
 ghost use Rattle.block.specs.Check.{plainCheck, weightedCheck, sealed, checked, blockNumber};
+use crate::bounds::all_at_most;
 use crate::weights::put_weights;
-use crate::words::all_at_most;
 use crate::words::put_words;
 use crate::words::word_at;
 

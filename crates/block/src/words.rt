@@ -1,10 +1,9 @@
 // Words of two bytes, high byte first: read one, write a run, read a run.
 ghost use mathlib.Core.Path.{_≡_};
-ghost use Prim.Native.Nat.{_+_, _-_, _*_, _/_, _%_, _<_, _≤_};
+ghost use Prim.Native.Nat.{_+_, _*_, _/_, _%_, _<_, _≤_};
 ghost use lib.ListN.{length, getD, take, drop};
 ghost use Rattle.lists.specs.Patched.{patched};
 ghost use Rattle.block.specs.Words.{bytesOf, wordsOf};
-ghost use Rattle.block.specs.Check.{allAtMost};
 
 fn pair(high: u8, low: u8) -> u16
     ensures { λ r. ⌜ r ≡ high * 256 + low ⌝ }
@@ -61,19 +60,4 @@ pub fn take_words(bytes: &[u8], from: usize, row: &mut [u16])
         row[i] = word_at(bytes, from + i);
         i += 1;
     }
-}
-
-// Whether each word from word `from` up to word `to` is at most `top`.
-pub fn all_at_most(bytes: &[u8], from: usize, to: usize, top: u16) -> bool
-    requires { ⌜ (from ≤ to) × (2 * to ≤ length (now bytes)) ⌝ }
-    ensures { λ r. ⌜ r ≡ allAtMost top (take (to - from) (drop from (wordsOf (now (bytes .entry))))) ⌝ }
-{
-    let mut i = from;
-    while i < to {
-        if top < word_at(bytes, i) {
-            return false;
-        }
-        i += 1;
-    }
-    true
 }

@@ -1,31 +1,13 @@
 // What a cut is refused for, in the order of the numbers.
 ghost use mathlib.Core.Path.{_≡_};
 ghost use mathlib.Core.Bool.{cond};
-ghost use Prim.Native.Nat.{_≤_, max};
+ghost use Prim.Native.Nat.{_≤_};
 ghost use lib.ListN.{length};
 ghost use Rattle.block.specs.Check.{allAtMost};
 ghost use Rattle.cut.specs.Cut.{lentRight, cutNumber};
+use block::bounds::within;
 use format::order;
 use format::order::Order;
-
-fn larger(a: u16, b: u16) -> u16
-    ensures { λ r. ⌜ r ≡ max a b ⌝ }
-{
-    if a < b { b } else { a }
-}
-
-// Whether no word is above 256.
-fn within(words: &[u16]) -> bool
-    ensures { λ r. ⌜ r ≡ allAtMost 256 (now (words .entry)) ⌝ }
-{
-    let mut top: u16 = 0;
-    let mut i = 0;
-    while i < words.len() {
-        top = larger(top, words[i]);
-        i += 1;
-    }
-    top <= 256
-}
 
 // Whether the random words and the tray are as many as the order asks for a secret of this length.
 fn lent_right(o: Order, secret: &[u8], random: &[u16], tray: &[u8]) -> bool
@@ -41,7 +23,7 @@ fn lent_number(o: Order, secret: &[u8], random: &[u16], tray: &[u8]) -> u32
     ensures { λ r. ⌜ r ≡ cond (lentRight o (now (secret .entry)) (now (random .entry)) (now (tray .entry))) (cond (allAtMost 256 (now (random .entry))) 0 5) 4 ⌝ }
 {
     let right = lent_right(o, secret, random, tray);
-    let words = within(random);
+    let words = within(random, 256);
     if right { if words { 0 } else { 5 } } else { 4 }
 }
 

@@ -12,8 +12,8 @@ use crate::head::Head;
 use crate::head::head_of;
 use crate::letter::blocks;
 use crate::letter::end_of;
+use block::bounds::all_at_most;
 use block::check;
-use block::words::all_at_most;
 use block::words::take_words;
 use block::words::word_at;
 

@@ -4,20 +4,6 @@ ghost use mathlib.Core.Bool.{true};
 ghost use lib.ListN.{length};
 ghost use Rattle.block.specs.Check.{allAtMost};
 
-// Whether each word is a byte.
-pub fn are_bytes(words: &[u16]) -> bool
-    ensures { λ r. ⌜ r ≡ allAtMost 255 (now (words .entry)) ⌝ }
-{
-    let mut i = 0;
-    while i < words.len() {
-        if 255 < words[i] {
-            return false;
-        }
-        i += 1;
-    }
-    true
-}
-
 // Writes words that are bytes into a room for as many.
 pub fn put_bytes(words: &[u16], room: &mut [u8])
     requires { ⌜ allAtMost 255 (now words) ≡ true ⌝ ∗ ⌜ length (now words) ≡ length (now room) ⌝ }

@@ -1,11 +1,13 @@
 -- `agree::step::difference` meets its contract. Assumes nothing.
 use Prim.Native.Nat.{ℕ, _+_, _-_, _<_}
-use mathlib.Core.Path.{_≡_}
+use mathlib.Core.Path.{_≡_, sym, ap, _∙_}
+use mathlib.Core.List.{List}
 use mathlib.Core.Logic.{⊎-elim}
 use native.Mathlib.Nat.{eq-or-lt-of-le}
 use native.Mathlib.Omega.{arith}
 use lib.ListN.{length, getD}
 use borrow.Author.Needs.{needs}
+use Rattle.lists.specs.SameBytes.{same-bytes-equal}
 use Rattle.agree.specs.Kept.{Alike}
 use Rattle.agree.proofs.step.difference.Statement.{statement}
 use Rattle.agree.proofs.step.difference.Tie as tie
@@ -16,23 +18,34 @@ Inv-loop a b start i₀ i = Alike (λ j. getD a j 0) (λ j. getD b j 0) start (l
 abbrev μ-loop : tie.MeasureT-loop
 μ-loop a b start i₀ i = length a - i
 
+same-words-requires : tie.Need-same-words-requires Inv-loop μ-loop
+same-words-requires c κs = search needs
+
+returns : tie.Need-returns Inv-loop μ-loop
+returns c =
+    let same = c .before in
+    let a = same .before .before .before .args .a .now in
+    let b = same .before .before .before .args .b .now in
+    let equal = same-bytes-equal a b (sym (same .same-words .ensures) ∙ c .if1 .taken) in
+    record { starts = omega arith; ends = omega arith; same = λ j l h. ap (λ (row : List ℕ). getD row j 0) equal }
+
 loop-holds : tie.Need-loop-holds Inv-loop μ-loop
 loop-holds c = search needs
 
-mul-if1 : tie.Need-mul-if1 Inv-loop μ-loop
-mul-if1 c = search needs
+mul-if2 : tie.Need-mul-if2 Inv-loop μ-loop
+mul-if2 c = search needs
 
-shared-slice-read-if1 : tie.Need-shared-slice-read-if1 Inv-loop μ-loop
-shared-slice-read-if1 c = search needs
+shared-slice-read-if2 : tie.Need-shared-slice-read-if2 Inv-loop μ-loop
+shared-slice-read-if2 c = search needs
 
-mul-if1-2 : tie.Need-mul-if1-2 Inv-loop μ-loop
-mul-if1-2 c = search needs
+mul-if2-2 : tie.Need-mul-if2-2 Inv-loop μ-loop
+mul-if2-2 c = search needs
 
-shared-slice-read-if1-2 : tie.Need-shared-slice-read-if1-2 Inv-loop μ-loop
-shared-slice-read-if1-2 c = search needs
+shared-slice-read-if2-2 : tie.Need-shared-slice-read-if2-2 Inv-loop μ-loop
+shared-slice-read-if2-2 c = search needs
 
-returns : tie.Need-returns Inv-loop μ-loop
-returns c = search needs
+returns-2 : tie.Need-returns-2 Inv-loop μ-loop
+returns-2 c = search needs
 
 add-i : tie.Need-add-i Inv-loop μ-loop
 add-i c = search needs
@@ -48,10 +61,10 @@ alike-more {i = i} a l e = record {
 }
 
 loop-again : tie.Need-loop-again Inv-loop μ-loop
-loop-again c = alike-more (c .before .before .before .before .loop .inv) (c .before .before .before .loop-test .taken) (c .if1 .left)
+loop-again c = alike-more (c .before .before .before .before .loop .inv) (c .before .before .before .loop-test .taken) (c .if2 .left)
 
-returns-2 : tie.Need-returns-2 Inv-loop μ-loop
-returns-2 c = search needs
+returns-3 : tie.Need-returns-3 Inv-loop μ-loop
+returns-3 c = search needs
 
 pub difference-spec : {M : Type 1} → statement M
 difference-spec =
@@ -59,13 +72,15 @@ difference-spec =
     (tie.spec
     Inv-loop
     μ-loop
-    loop-holds
-    mul-if1
-    shared-slice-read-if1
-    mul-if1-2
-    shared-slice-read-if1-2
+    same-words-requires
     returns
+    loop-holds
+    mul-if2
+    shared-slice-read-if2
+    mul-if2-2
+    shared-slice-read-if2-2
+    returns-2
     add-i
     loop-less
     loop-again
-    returns-2)
+    returns-3)

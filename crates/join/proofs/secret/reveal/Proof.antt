@@ -8,14 +8,14 @@ use Rattle.join.proofs.secret.reveal.Tie as tie
 constants-of-requires : tie.Need-constants-of-requires
 constants-of-requires c κs = search needs
 
-are-bytes-requires : tie.Need-are-bytes-requires
-are-bytes-requires c κs = search needs
+within-requires : tie.Need-within-requires
+within-requires c κs = search needs
 
 put-bytes-requires : tie.Need-put-bytes-requires
 put-bytes-requires c κs =
     let bytes = c .before .before in
     let row = bytes .before .before .before .before .before in
-    (sym (bytes .before .are-bytes .ensures) ∙ bytes .if1 .taken, row .constants-of .kept .1 .1 .1 .0 ∙ row .before .before .before .before .before .pre .1 .1 .1 .1)
+    (sym (bytes .before .within .ensures) ∙ bytes .if1 .taken, row .constants-of .kept .1 .1 .1 .0 ∙ row .before .before .before .before .before .pre .1 .1 .1 .1)
 
 same-length : tie.Need-same-length
 same-length c = search needs
@@ -30,7 +30,7 @@ returns c =
     let row = bytes .before .before .before .before .before in
     let start = row .before .before .before .before .before in
     reveals-bytes (row .constants-of .last .1 .1 .1 .0) (start .args .room .now) (rw (start .pre .1 .1 .1 .1) at (row .constants-of .ensures))
-    (sym (bytes .before .are-bytes .ensures) ∙ bytes .if1 .taken) _ (put .put-bytes .ensures)
+    (sym (bytes .before .within .ensures) ∙ bytes .if1 .taken) _ (put .put-bytes .ensures)
 
 same-length-3 : tie.Need-same-length-3
 same-length-3 c = search needs
@@ -40,14 +40,14 @@ returns-2 c =
     let row = c .before .before .before .before .before in
     let start = row .before .before .before .before .before in
     reveals-wide (row .constants-of .last .1 .1 .1 .0) (start .args .room .now) (rw (start .pre .1 .1 .1 .1) at (row .constants-of .ensures))
-    (sym (c .before .are-bytes .ensures) ∙ c .if1 .left)
+    (sym (c .before .within .ensures) ∙ c .if1 .left)
 
 pub reveal-spec : {M : Type 1} → statement M
 reveal-spec =
     tie.close
     (tie.spec
     constants-of-requires
-    are-bytes-requires
+    within-requires
     put-bytes-requires
     same-length
     same-length-2
