@@ -1,0 +1,41 @@
+//! The limits we hold ourselves to.
+
+use crate::gfshare::LENT;
+use crate::numbers::{ratio, time};
+use crate::race::Race;
+use crate::races::Races;
+use crate::sides::SECOND;
+
+pub struct Limit {
+    pub says: String,
+    pub measured: String,
+    pub met: bool,
+}
+
+pub fn limits(races: &Races) -> Vec<Limit> {
+    vec![
+        at_most(1.5, "cut", &races.cut),
+        less_than_gfshare(&races.cut),
+        at_most(2.0, "join, all letters good", &races.good),
+        under(5, "join, three liars in the last word", &races.liars),
+        under(20, "join, t=7, three liars, answer 7", &races.too_many),
+    ]
+}
+
+fn at_most(times: f64, work: &str, race: &Race) -> Limit {
+    let found = race.ratio(race.of(SECOND));
+    let says = format!("{work}: at most {times} times the second program");
+    Limit { says, measured: format!("{} times", ratio(found)), met: found <= times }
+}
+
+fn less_than_gfshare(race: &Race) -> Limit {
+    let (own, other) = (race.library().time, race.of(LENT).time);
+    let measured = format!("{} against {}", time(own), time(other));
+    Limit { says: "cut: less than gfshare, random bytes lent".into(), measured, met: own < other }
+}
+
+fn under(milliseconds: u32, work: &str, race: &Race) -> Limit {
+    let found = race.library().time;
+    let says = format!("{work}: under {milliseconds} ms");
+    Limit { says, measured: time(found), met: found < f64::from(milliseconds) * 1e-3 }
+}

@@ -1,0 +1,100 @@
+//! A race: who does one piece of work, and how fast.
+
+use std::hint::black_box;
+use std::time::Instant;
+
+/// Many short slices, so that a slow spell of the machine hits every side.
+const SLICES: usize = 60;
+const SLICE: f64 = 0.004;
+
+/// One who does the work.
+pub trait Side {
+    fn name(&self) -> &'static str;
+
+    /// The bytes of the secret worked on.
+    fn bytes(&self) -> usize;
+
+    /// Before a slice, off the clock: spoils what the last one left.
+    fn prepare(&mut self);
+
+    /// The work, on the clock.
+    fn work(&mut self);
+
+    /// After a slice, off the clock: whether the work was done, and right.
+    fn right(&mut self) -> bool;
+}
+
+/// The best time of one side, in seconds.
+pub struct Best {
+    pub name: &'static str,
+    pub bytes: usize,
+    pub time: f64,
+}
+
+/// One piece of work, and the best time of each side; the first is the library.
+pub struct Race {
+    pub work: &'static str,
+    pub bests: Vec<Best>,
+}
+
+impl Race {
+    pub fn run(work: &'static str, mut sides: Vec<Box<dyn Side + '_>>) -> Race {
+        let mut times = vec![f64::MAX; sides.len()];
+        for depth in 0..SLICES {
+            for (side, time) in sides.iter_mut().zip(&mut times) {
+                *time = deeper(depth, &mut || slice(side.as_mut())).min(*time);
+                assert!(side.right(), "{work}: {} gives a wrong answer", side.name());
+            }
+        }
+        let mut bests = Vec::new();
+        for (side, time) in sides.iter().zip(times) {
+            bests.push(Best { name: side.name(), bytes: side.bytes(), time });
+        }
+        Race { work, bests }
+    }
+
+    pub fn library(&self) -> &Best {
+        &self.bests[0]
+    }
+
+    pub fn of(&self, name: &str) -> &Best {
+        self.bests.iter().find(|best| best.name == name).expect("a side of this race")
+    }
+
+    /// The library's time for a byte, in those of another side.
+    pub fn ratio(&self, other: &Best) -> f64 {
+        self.library().per_byte() / other.per_byte()
+    }
+}
+
+impl Best {
+    pub fn per_byte(&self) -> f64 {
+        self.time / self.bytes as f64
+    }
+}
+
+/// Does this some steps down the stack. Where a process has its stack can change a time by a tenth, and
+/// the best of many should not hang on that.
+fn deeper(steps: usize, work: &mut dyn FnMut() -> f64) -> f64 {
+    let step = black_box([0_u8; 48]);
+    let time = if steps == 0 { work() } else { deeper(steps - 1, work) };
+    black_box(step);
+    time
+}
+
+/// The best time in one slice.
+fn slice(side: &mut dyn Side) -> f64 {
+    side.prepare();
+    let mut best = f64::MAX;
+    let begun = Instant::now();
+    while begun.elapsed().as_secs_f64() < SLICE {
+        best = best.min(seconds(|| side.work()));
+    }
+    best
+}
+
+pub fn seconds(work: impl FnOnce()) -> f64 {
+    let begun = Instant::now();
+    work();
+    begun.elapsed().as_secs_f64()
+}

@@ -1,0 +1,42 @@
+//! The four races.
+
+use second::order::Order;
+use second::random::Random;
+
+use crate::case::Case;
+use crate::race::Race;
+use crate::sides::{cuts, joins};
+use crate::{gfshare, ssss};
+
+pub struct Races {
+    pub cut: Race,
+    pub good: Race,
+    pub liars: Race,
+    pub too_many: Race,
+}
+
+impl Races {
+    pub fn run() -> Races {
+        let random = &Random::new(1);
+        let order = Order::new(3, 3, 16);
+        let good = Case::good(order, random);
+        let liars = Case::three_liars(order, random);
+        let too_many = Case::three_liars(Order::new(7, 2, 16), random);
+        assert_eq!([&good, &liars, &too_many].map(|case| case.joined.number), [0, 0, 7]);
+
+        let mut cuts = cuts(&good);
+        cuts.extend([gfshare::split(&good), gfshare::split_and_draw(&good), ssss::split(&good)]);
+        let mut good_joins = joins(&good);
+        good_joins.extend([gfshare::combine(&good), ssss::combine(&good)]);
+        Races {
+            cut: Race::run("cut, t=3, f=3, n=16", cuts),
+            good: Race::run("join, t=3, f=3, n=16, all letters good", good_joins),
+            liars: Race::run("join, t=3, f=3, n=16, three liars", joins(&liars)),
+            too_many: Race::run("join, t=7, f=2, n=16, three liars, answer 7", joins(&too_many)),
+        }
+    }
+
+    pub fn all(&self) -> [&Race; 4] {
+        [&self.cut, &self.good, &self.liars, &self.too_many]
+    }
+}
