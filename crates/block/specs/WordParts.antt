@@ -6,7 +6,7 @@ use mathlib.Core.List.{List, [], _∷_, _++_}
 use native.Mathlib.Nat.{not-suc-le-zero}
 use native.Mathlib.Omega.{arith}
 use lib.ListN.{length, getD, take, drop, replicate}
-use lib.Seq.{length-take-le}
+use lib.Seq.{length-take-le, take-all}
 use Rattle.lists.specs.Patched.{patched}
 use Rattle.block.specs.WordLaws.{words-bytes}
 use Rattle.block.specs.Words.{bytesOf, wordsOf}
@@ -41,6 +41,10 @@ words-take zero bs = refl
 words-take (suc n) [] = rw (double n)
 words-take (suc n) (b ∷ []) = rw (double n)
 words-take (suc n) (high ∷ low ∷ bs) = rw (double n, words-take n bs)
+
+-- a block's bytes are 256 words, no more and no fewer
+pub words-all : (bs : List ℕ) → length bs ≡ 512 → take 256 (wordsOf bs) ≡ wordsOf bs
+words-all bs size = take-all 256 (wordsOf bs) (omega (arith, length-words bs))
 
 pub words-drop : (n : ℕ) (bs : List ℕ) → wordsOf (drop (2 * n) bs) ≡ drop n (wordsOf bs)
 unfolding wordsOf

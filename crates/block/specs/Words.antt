@@ -13,3 +13,7 @@ unfoldable pub wordsOf : List ℕ → List ℕ
 wordsOf [] = []
 wordsOf (b ∷ []) = []
 wordsOf (high ∷ low ∷ bs) = (high * 256 + low) ∷ wordsOf bs
+
+-- a word with its bytes exchanged
+abbrev pub exchanged : ℕ → ℕ
+exchanged w = w % 256 * 256 + w / 256

@@ -2,8 +2,9 @@
 ghost use mathlib.Core.Path.{_≡_};
 ghost use Prim.Native.Nat.{_+_, _*_, _/_, _%_, _<_, _≤_};
 ghost use lib.ListN.{length, getD, take, drop};
+ghost use Rattle.lists.specs.Listed.{listed};
 ghost use Rattle.lists.specs.Patched.{patched};
-ghost use Rattle.block.specs.Words.{bytesOf, wordsOf};
+ghost use Rattle.block.specs.Words.{bytesOf, wordsOf, exchanged};
 
 fn pair(high: u8, low: u8) -> u16
     ensures { λ r. ⌜ r ≡ high * 256 + low ⌝ }
@@ -50,14 +51,49 @@ pub fn put_words(bytes: &mut [u8], from: usize, words: &[u16])
     }
 }
 
+// Word i of some bytes with its bytes exchanged. Most machines hold a word low byte first, so a run of these is taken as it stands.
+fn exchanged_at(bytes: &[u8], i: usize) -> u16
+    requires { ⌜ 2 * i + 1 < length (now bytes) ⌝ }
+    ensures { λ r. ⌜ r ≡ exchanged (getD (wordsOf (now (bytes .entry))) i 0) ⌝ }
+{
+    let low = bytes[2 * i];
+    let high = bytes[2 * i + 1];
+    pair(high, low)
+}
+
+fn take_exchanged(bytes: &[u8], from: usize, row: &mut [u16])
+    requires { ⌜ 2 * from + 2 * length (now row) ≤ length (now bytes) ⌝ }
+    ensures { λ _. ⌜ now (row .exit) ≡ listed (λ k. exchanged (getD (wordsOf (now (bytes .entry))) (from + k) 0)) (length (now (row .entry))) ⌝ }
+{
+    let mut i = 0;
+    while i < row.len() {
+        row[i] = exchanged_at(bytes, from + i);
+        i += 1;
+    }
+}
+
+fn exchanged(w: u16) -> u16
+    ensures { λ r. ⌜ r ≡ exchanged w ⌝ }
+{
+    w % 256 * 256 + w / 256
+}
+
+// Exchanges the bytes of each word.
+fn exchange(row: &mut [u16])
+    ensures { λ _. ⌜ now (row .exit) ≡ listed (λ k. exchanged (getD (now (row .entry)) k 0)) (length (now (row .entry))) ⌝ }
+{
+    let mut i = 0;
+    while i < row.len() {
+        row[i] = exchanged(row[i]);
+        i += 1;
+    }
+}
+
 // Fills a row with the words from word `from` on.
 pub fn take_words(bytes: &[u8], from: usize, row: &mut [u16])
     requires { ⌜ 2 * from + 2 * length (now row) ≤ length (now bytes) ⌝ }
     ensures { λ _. ⌜ now (row .exit) ≡ take (length (now (row .entry))) (drop from (wordsOf (now (bytes .entry)))) ⌝ }
 {
-    let mut i = 0;
-    while i < row.len() {
-        row[i] = word_at(bytes, from + i);
-        i += 1;
-    }
+    take_exchanged(bytes, from, row);
+    exchange(row);
 }

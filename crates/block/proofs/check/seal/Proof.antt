@@ -12,7 +12,7 @@ use Rattle.lists.specs.Patched.{patched}
 use Rattle.block.specs.Check.{plainCheck, weightedCheck, sealed}
 use Rattle.block.specs.CheckLaws.{checks-take}
 use Rattle.block.specs.WordLaws.{bytes-words}
-use Rattle.block.specs.WordParts.{length-bytes, words-take, bytes-append}
+use Rattle.block.specs.WordParts.{length-bytes, words-all, words-take, bytes-append}
 use Rattle.block.specs.Words.{bytesOf, wordsOf}
 use Rattle.block.proofs.check.seal.Statement.{statement}
 use Rattle.block.proofs.check.seal.Tie as tie
@@ -30,6 +30,15 @@ sealed-bytes bytes plain weighted size below p w =
     rw (checks-take words .0, checks-take words .1, ← p, ← w, bytes-append (take 254 words) last, ← words-take 254 bytes, front)
     (rw (drop-of-length-le bytes end, append-nil))
 
+slice-aggregate-take-words : tie.Need-slice-aggregate-take-words
+slice-aggregate-take-words c = search needs
+
+take-words-requires : tie.Need-take-words-requires
+take-words-requires c κs = search needs
+
+slice-aggregate-sums : tie.Need-slice-aggregate-sums
+slice-aggregate-sums c = search needs
+
 sums-requires : tie.Need-sums-requires
 sums-requires c κs = search needs
 
@@ -44,14 +53,25 @@ same-length c = search needs
 
 returns : tie.Need-returns
 returns c =
-    let start = c .before .before .before .before .before .before .before in
+    let summed = c .before .before .before .before .before in
+    let taken = summed .before .before .before in
+    let start = taken .before .before .before in
     let bytes = start .before .args .block .now in
-    let sums = c .before .before .before .before .before .sums in
     let below : Below 256 bytes = λ i h. start .slice-known .given i .fits in
+    let words : taken .take-words .last .1 .1 .0 ≡ wordsOf bytes = taken .take-words .ensures ∙ words-all bytes (start .before .pre) in
+    let sums = rw words at (summed .sums .ensures) in
     c .before .before .put-words .ensures
-    ∙ sealed-bytes bytes (sums .result .plain) (sums .result .weighted) (start .before .pre) below (sums .ensures .0) (sums .ensures .1)
+    ∙ sealed-bytes bytes (summed .sums .result .plain) (summed .sums .result .weighted) (start .before .pre) below (sums .0) (sums .1)
 
 pub seal-spec : {M : Type 1} → statement M
 seal-spec =
     tie.close
-    (tie.spec sums-requires slice-aggregate-put-words put-words-requires same-length returns)
+    (tie.spec
+    slice-aggregate-take-words
+    take-words-requires
+    slice-aggregate-sums
+    sums-requires
+    slice-aggregate-put-words
+    put-words-requires
+    same-length
+    returns)

@@ -11,7 +11,6 @@ use borrow.Author.Needs.{needs}
 use Rattle.lists.specs.Modulus.{mul-mod-mod}
 use Rattle.lists.specs.Total.{total, total-same-mod}
 use Rattle.block.specs.Check.{plainCheck, weightedCheck}
-use Rattle.block.specs.Words.{wordsOf}
 use Rattle.block.proofs.check.sums.Statement.{statement}
 use Rattle.block.proofs.check.sums.Tie as tie
 
@@ -58,10 +57,10 @@ summed-all words plain weighted s =
     (ap (λ n. n % 257) (s .plain-is), ap (λ n. n % 257) (s .weighted-is) ∙ whole)
 
 abbrev Inv-loop : tie.InvT-loop
-Inv-loop block weights plain₀ weighted₀ i₀ plain weighted i = Summed (wordsOf block) plain weighted i
+Inv-loop words weights plain₀ weighted₀ i₀ plain weighted i = Summed words plain weighted i
 
 abbrev μ-loop : tie.MeasureT-loop
-μ-loop block weights plain₀ weighted₀ i₀ plain weighted i = 254 - i
+μ-loop words weights plain₀ weighted₀ i₀ plain weighted i = 254 - i
 
 slice-aggregate-put-weights : tie.Need-slice-aggregate-put-weights Inv-loop μ-loop
 slice-aggregate-put-weights c = search needs
@@ -70,19 +69,25 @@ put-weights-requires : tie.Need-put-weights-requires Inv-loop μ-loop
 put-weights-requires c κs = search needs
 
 loop-holds : tie.Need-loop-holds Inv-loop μ-loop
-loop-holds c = summed-none (wordsOf (c .before .before .before .before .args .block .now))
+loop-holds c = summed-none (c .before .before .before .before .args .words .now)
 
-word-at-requires : tie.Need-word-at-requires Inv-loop μ-loop
-word-at-requires c κs = search needs
+mul-wide : tie.Need-mul-wide Inv-loop μ-loop
+mul-wide c = search needs
+
+shared-slice-read-wide : tie.Need-shared-slice-read-wide Inv-loop μ-loop
+shared-slice-read-wide c = search needs
 
 wide-requires : tie.Need-wide-requires Inv-loop μ-loop
 wide-requires c κs = search needs
 
-add-plain : tie.Need-add-plain Inv-loop μ-loop
-add-plain c = search needs
+small : (c : tie.After-wide Inv-loop μ-loop) → c .wide .result < 65536
+small c = rw (c .wide .ensures) (c .before .shared-slice-known2 .given (c .before .before .before .loop .i) .fits)
 
-mul-wide : tie.Need-mul-wide Inv-loop μ-loop
-mul-wide c = search needs
+add-plain : tie.Need-add-plain Inv-loop μ-loop
+add-plain c = let p = c .before .before .before .loop .inv .plain-le in omega (arith, small c)
+
+mul-wide-2 : tie.Need-mul-wide-2 Inv-loop μ-loop
+mul-wide-2 c = search needs
 
 array-read-wide : tie.Need-array-read-wide Inv-loop μ-loop
 array-read-wide c = search needs
@@ -98,7 +103,7 @@ weight c =
 
 product : (c : tie.After-wide2 Inv-loop μ-loop) → c .before .wide .result * c .wide2 .result ≤ 65535 * 256
 product c =
-    product-le (c .before .wide .result) (c .wide2 .result) (c .before .before .before .before .loop .i) (omega arith) (weight c)
+    product-le (c .before .wide .result) (c .wide2 .result) (c .before .before .before .before .loop .i) (small (c .before)) (weight c)
 
 mul-weighted : tie.Need-mul-weighted Inv-loop μ-loop
 mul-weighted c = omega (arith, product c)
@@ -116,9 +121,8 @@ loop-again : tie.Need-loop-again Inv-loop μ-loop
 loop-again c =
     let word = c .before in
     let here = word .before .before .before .loop in
-    let words = wordsOf (word .before .before .before .before .before .before .before .before .args .block .now) in
-    let read = word .wide .ensures ∙ word .before .word-at .ensures in
-    summed-more words (here .plain) (here .weighted) (c .wide2 .result) (here .i) (word .wide .result) (here .inv) (omega arith) read (omega arith) (weight c)
+    let words = word .before .before .before .before .before .before .before .before .args .words .now in
+    summed-more words (here .plain) (here .weighted) (c .wide2 .result) (here .i) (word .wide .result) (here .inv) (omega arith) (word .wide .ensures) (small word) (weight c)
 
 remainder-requires : tie.Need-remainder-requires Inv-loop μ-loop
 remainder-requires c κs = search needs
@@ -129,7 +133,7 @@ remainder-requires-2 c κs = search needs
 returns : tie.Need-returns Inv-loop μ-loop
 returns c =
     let here = c .before .before .before .loop in
-    let words = wordsOf (c .before .before .before .before .before .before .before .before .args .block .now) in
+    let words = c .before .before .before .before .before .before .before .before .args .words .now in
     let end : here .i ≡ 254 = let p = here .inv .passed in omega arith in
     let sums = summed-all words (here .plain) (here .weighted) (rw end at (here .inv)) in
     (c .before .remainder .ensures ∙ sums .0, c .remainder2 .ensures ∙ sums .1)
@@ -143,10 +147,11 @@ sums-spec =
     slice-aggregate-put-weights
     put-weights-requires
     loop-holds
-    word-at-requires
+    mul-wide
+    shared-slice-read-wide
     wide-requires
     add-plain
-    mul-wide
+    mul-wide-2
     array-read-wide
     wide-requires-2
     mul-weighted
