@@ -8,8 +8,12 @@
  *
  * Each may be called with any values of its types: what is wrong with them is answered by a number,
  * never by a fault. What is lent is a pointer and the number of elements behind it, and must really be
- * there; the pointer is not NULL, even where the number is 0. Nothing is kept after a call, and
- * nothing is allocated. A lent part that is written must not overlap another.
+ * there; the pointer is not NULL, even where the number is 0. A lent part that is written must not
+ * overlap another.
+ *
+ * No call allocates memory, or remembers anything for the next one. Threads may call at once, if none
+ * writes what another is lent. A call takes less than 64 KB of stack, and does not wipe it: after a
+ * cut or a join, words of the secret stay there until something overwrites them.
  *
  * The numbers a call can give:
  *
@@ -93,7 +97,8 @@ typedef struct {
 /*
  * Joins the letters of a tray that read as good and have this order, stamp and length and their own
  * slot's keeper number. If the tray was cut, at most f usable letters differ from the cut and any
- * others are made unusable, the answer is never a wrong secret.
+ * others are made unusable, the answer is never a wrong secret, and it is the right one if t+2f+1
+ * letters are usable or t+f+1 of the usable ones are unaltered.
  *
  * Lent: the tray, n*2048 bytes, read only; room for exactly length bytes, to which the secret is
  * written where the answer is 0.

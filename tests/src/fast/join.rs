@@ -29,13 +29,7 @@ pub fn join(order: Order, stamp: u32, length: u32, tray: &[u8], room: &mut [u8])
         return refused(4);
     }
     let mut rows = [[0; ROW]; 17];
-    let mut usable = Keepers::none();
-    for (slot, keeper) in tray.chunks_exact(SLOT).zip(1..) {
-        let head = Head { order, keeper, stamp, length };
-        if read_letter(head, slot, &mut rows[keeper as usize]) {
-            usable.push(keeper as u16);
-        }
-    }
+    let usable = scan(order, stamp, length, tray, &mut rows);
     let m = usable.all().len() as u32;
     let need = m.saturating_sub(order.f).max(order.fewest());
     let answer = |number, set| Joined { number, usable: m, need, set };
@@ -54,6 +48,18 @@ pub fn join(order: Order, stamp: u32, length: u32, tray: &[u8], room: &mut [u8])
         *byte = constant as u8;
     }
     answer(0, agreed.set())
+}
+
+/// The keepers whose letters can be used; their share words go to their rows.
+fn scan(order: Order, stamp: u32, length: u32, tray: &[u8], rows: &mut Rows) -> Keepers {
+    let mut usable = Keepers::none();
+    for (slot, keeper) in tray.chunks_exact(SLOT).zip(1..) {
+        let head = Head { order, keeper, stamp, length };
+        if read_letter(head, slot, &mut rows[keeper as usize]) {
+            usable.push(keeper as u16);
+        }
+    }
+    usable
 }
 
 /// Whether the slot holds a good letter with exactly this head; its share words go to the row.
