@@ -1,4 +1,5 @@
--- `search::matching` meets its contract. The set so far is that of the keepers up to k that pass. Assumes nothing.
+-- `search::matching` meets its contract: the set so far is that of the keepers up to k that pass.
+-- Assumes nothing.
 use Prim.Native.Nat.{ℕ, _+_, _-_, _^_, _≤_, _<_}
 use mathlib.Core.Path.{_≡_, refl, sym, ap, ap₂, _∙_}
 use mathlib.Core.Bool.{Bool}

@@ -1,4 +1,4 @@
--- Turn by turn the row's front is the words from `from` on, and the rest is as it was.
+-- `block::words::take_words` meets its contract: turn by turn the row's front is the words from `from` on, and the rest is as it was.
 -- Assumes nothing.
 use Prim.Native.Nat.{ℕ, _+_, _-_, _*_, _≤_}
 use mathlib.Core.Path.{_≡_, refl, sym, _∙_}
