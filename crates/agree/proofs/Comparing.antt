@@ -1,4 +1,5 @@
--- Rows compared, keeper by keeper, with those carried from a base. Assumes nothing.
+-- Rows compared, keeper by keeper, with those carried from a base.
+-- Assumes nothing.
 use Prim.Native.Nat.{ℕ, _+_, _≤_, _<_}
 use mathlib.Core.Path.{_≡_, subst}
 use mathlib.Core.Bool.{Bool, false}

@@ -6,8 +6,8 @@ pub mod InStepLaws
 pub mod Kept
 pub mod KeptLaws
 pub mod NarrowedLaws
+pub mod PastLaws
+pub mod ReachesLaws
 pub mod Recovers
 pub mod Rows
-pub mod ReachesLaws
 pub mod ScanLaws
-pub mod PastLaws

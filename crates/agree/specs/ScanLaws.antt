@@ -26,7 +26,7 @@ module _ {n l : ℕ} {us us′ : ℕ → Bool} {word word′ : ℕ → ℕ → �
   pub scan-many : count us (from 1 n) ≡ count us′ (from 1 n)
   scan-many = count-same us us′ (from 1 n) (λ x m. let h = from-in 1 n x m in S .same-usable x (h .0) (omega arith))
 
-  pub scan-needed : (t f : ℕ) → needed t f n us ≡ needed t f n us′
+  scan-needed : (t f : ℕ) → needed t f n us ≡ needed t f n us′
   scan-needed t f = ap (λ (m : ℕ). need m t f) scan-many
 
   module _ (O : Ops) (ps : List (List ℕ)) where

@@ -1,6 +1,6 @@
 -- Only one agreement: polynomials that each match as many of m values as are needed are the same.
 -- Assumes nothing.
-use Prim.Native.Nat.{ℕ, suc, _+_, _-_, _*_, _≤_, max}
+use Prim.Native.Nat.{ℕ, suc, _+_, _-_, _≤_, max}
 use mathlib.Core.Path.{_≡_, sym, _∙_}
 use mathlib.Core.Bool.{Bool, true, and-eq-true-iff}
 use mathlib.Core.List.{List}
@@ -22,20 +22,9 @@ need m t f = max (m - f) (t + f + 1)
 abbrev pub Agrees : Ops → List ℕ → (ℕ → ℕ) → (ℕ → Bool) → List ℕ → Type 0
 Agrees O xs y a p = (x : ℕ) → In x xs → a x ≡ true → eval O p x ≡ y x
 
--- who reaches need: all but f of them, and t + f + 1 at the least
-pub need-reached : (m t f n : ℕ) → m ≤ n + f → t + f + 1 ≤ n → need m t f ≤ n
-need-reached m t f n l h = omega arith
-
-pub need-reached-many : (m t f n : ℕ) → m ≤ n + f → t + 2 * f + 1 ≤ m → need m t f ≤ n
-need-reached-many m t f n l h = omega arith
-
 module _ (t f : ℕ) (xs : List ℕ) (a b : ℕ → Bool) where
-  pub shared-need : need (length xs) t f ≤ count a xs → need (length xs) t f ≤ count b xs → suc t ≤ count (both a b) xs
+  shared-need : need (length xs) t f ≤ count a xs → need (length xs) t f ≤ count b xs → suc t ≤ count (both a b) xs
   shared-need ha hb = omega (arith, count-both a b xs)
-
-  -- of those that reach need, at most f are left out by a test that leaves out at most f of all
-  pub shared-true : need (length xs) t f ≤ count a xs → length xs ≤ count b xs + f → suc t ≤ count (both a b) xs
-  shared-true ha hb = omega (arith, count-both a b xs)
 
 module _ {O : Ops} (F : IsField O) (t : ℕ) (xs : List ℕ) (y : ℕ → ℕ) (a b : ℕ → Bool) (p p′ : List ℕ)
     (P : Points (O .q) xs) (d : Degree O t p) (d′ : Degree O t p′) (A : Agrees O xs y a p) (B : Agrees O xs y b p′) where
@@ -51,7 +40,3 @@ module _ {O : Ops} (F : IsField O) (t : ℕ) (xs : List ℕ) (y : ℕ → ℕ) (
   -- "Any polynomials that reach need are the only ones."
   pub agreement : (f : ℕ) → need (length xs) t f ≤ count a xs → need (length xs) t f ≤ count b xs → p ≡ p′
   agreement f ha hb = agreement-shared (shared-need t f xs a b ha hb)
-
-  -- p reaches need, and p′ matches all but f: an accepted polynomial is the one that was cut
-  pub agreement-true : (f : ℕ) → need (length xs) t f ≤ count a xs → length xs ≤ count b xs + f → p ≡ p′
-  agreement-true f ha hb = agreement-shared (shared-true t f xs a b ha hb)

@@ -3,10 +3,9 @@
 -- Assumes nothing.
 use Prim.Native.Nat.{ℕ, zero, suc, _≤_, _<_}
 use mathlib.Core.Path.{_≡_, refl, sym, ap, ap₂, _∙_}
-use mathlib.Core.List.{List, [], _∷_, _++_, map}
+use mathlib.Core.List.{List, [], _∷_, map}
 use native.Mathlib.Omega.{arith}
-use lib.ListN.{length, getD, List·getD-append}
-use lib.Seq.{getD-at}
+use lib.ListN.{length, getD}
 use Rattle.lists.specs.Below.{Below}
 use Rattle.lists.specs.Map.{getD-map}
 use Rattle.algebra.specs.Factor.{factor}
@@ -14,7 +13,7 @@ use Rattle.algebra.specs.Field.{Ops, IsField}
 use Rattle.algebra.specs.Lagrange.{lagrange}
 use Rattle.algebra.specs.Points.{Points}
 use Rattle.algebra.specs.Poly.{eval}
-use Rattle.algebra.specs.Ring.{zero-lt, add-comm, add-assoc}
+use Rattle.algebra.specs.Ring.{add-comm, add-assoc}
 use Rattle.algebra.specs.Total.{total}
 
 unfoldable pub combine : Ops → List ℕ → List ℕ → ℕ → ℕ
@@ -25,31 +24,17 @@ combine O ys fs (suc k) = O .add (combine O ys fs k) (O .mul (getD ys k 0) (getD
 abbrev pub factors : Ops → List ℕ → ℕ → List ℕ
 factors O xs x = map (λ a. factor O xs a x) xs
 
-pub combine-same : (O : Ops) (ys ys′ fs fs′ : List ℕ) (k : ℕ)
+combine-same : (O : Ops) (ys ys′ fs fs′ : List ℕ) (k : ℕ)
     → ((i : ℕ) → i < k → getD ys i 0 ≡ getD ys′ i 0) → ((i : ℕ) → i < k → getD fs i 0 ≡ getD fs′ i 0) → combine O ys fs k ≡ combine O ys′ fs′ k
 unfolding combine
 combine-same O ys ys′ fs fs′ zero hy hf = refl
 combine-same O ys ys′ fs fs′ (suc k) hy hf =
     ap₂ (O .add) (combine-same O ys ys′ fs fs′ k (λ i l. hy i (omega arith)) (λ i l. hf i (omega arith))) (ap₂ (O .mul) (hy k (omega arith)) (hf k (omega arith)))
 
--- one more place at the end
-pub combine-append-one : (O : Ops) (ys fs : List ℕ) (y f k : ℕ) → length ys ≡ k → length fs ≡ k
-    → combine O (ys ++ (y ∷ [])) (fs ++ (f ∷ [])) (suc k) ≡ O .add (combine O ys fs k) (O .mul y f)
-unfolding combine
-combine-append-one O ys fs y f k sy sf =
-    ap₂ (O .add)
-    (combine-same O (ys ++ (y ∷ [])) ys (fs ++ (f ∷ [])) fs k (λ i l. List·getD-append ys (y ∷ []) 0 i (omega arith)) (λ i l. List·getD-append fs (f ∷ []) 0 i (omega arith)))
-    (ap₂ (O .mul) (getD-at ys y [] 0 k sy) (getD-at fs f [] 0 k sf))
-
 module _ {O : Ops} (F : IsField O) where
   infixl 60 _⊕_
   infixl 70 _⊗_
   open Ops O using (q, add as _⊕_, mul as _⊗_)
-
-  pub combine-lt : (ys fs : List ℕ) (k : ℕ) → combine O ys fs k < q
-  unfolding combine
-  combine-lt ys fs zero = zero-lt F
-  combine-lt ys fs (suc k) = F .add-lt (combine O ys fs k) (getD ys k 0 ⊗ getD fs k 0)
 
   combine-cons : (y f : ℕ) (ys fs : List ℕ) (k : ℕ) → combine O (y ∷ ys) (f ∷ fs) (suc k) ≡ y ⊗ f ⊕ combine O ys fs k
   unfolding combine
@@ -62,7 +47,7 @@ module _ {O : Ops} (F : IsField O) where
   combine-map g h (x ∷ xs) = combine-cons (g x) (h x) (map g xs) (map h xs) (length xs) ∙ ap (λ (e : ℕ). g x ⊗ h x ⊕ e) (combine-map g h xs)
 
   module _ (xs p : List ℕ) (x : ℕ) (P : Points q xs) (l : length p ≤ length xs) (b : Below q p) where
-    pub combine-eval : combine O (map (eval O p) xs) (factors O xs x) (length xs) ≡ eval O p x
+    combine-eval : combine O (map (eval O p) xs) (factors O xs x) (length xs) ≡ eval O p x
     combine-eval = combine-map (eval O p) (λ a. factor O xs a x) xs ∙ sym (lagrange F xs p x P l b)
 
     -- the same of lists known by their places, which may be longer

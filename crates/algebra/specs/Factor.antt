@@ -40,7 +40,7 @@ module _ {O : Ops} (F : IsField O) where
   swap false false u v e = mul-left-comm F u v e
 
   -- one more point at the end
-  pub factor-append-one : (bs : List ℕ) (b a x : ℕ) → factor O (bs ++ (b ∷ [])) a x ≡ cond (eqb a b) (factor O bs a x) (O .mul (ratio O b a x) (factor O bs a x))
+  factor-append-one : (bs : List ℕ) (b a x : ℕ) → factor O (bs ++ (b ∷ [])) a x ≡ cond (eqb a b) (factor O bs a x) (O .mul (ratio O b a x) (factor O bs a x))
   unfolding factor
   factor-append-one [] b a x = refl
   factor-append-one (c ∷ bs) b a x =

@@ -1,19 +1,17 @@
 -- At least one polynomial goes through given points: the one with the values y at the points xs, built a point at a time.
 -- Assumes nothing.
 use Prim.Native.Nat.{ℕ, suc, _<_}
-use mathlib.Core.Path.{_≡_, refl, sym, ap, _∙_}
+use mathlib.Core.Path.{_≡_, refl, ap, _∙_}
 use mathlib.Core.Logic.{inl, inr}
 use mathlib.Core.List.{List, [], _∷_}
-use native.Mathlib.Nat.{le-of-eq}
 use lib.ListN.{length}
 use Rattle.lists.specs.Below.{Below, below-nil}
 use Rattle.lists.specs.Member.{In}
 use Rattle.algebra.specs.Divide.{grow, eval-grow, length-grow, below-grow}
 use Rattle.algebra.specs.Field.{Ops, IsField}
 use Rattle.algebra.specs.Points.{Points, points-head, points-tail, points-apart, points-in}
-use Rattle.algebra.specs.Poly.{eval, eval-lt, Degree}
+use Rattle.algebra.specs.Poly.{eval, Degree}
 use Rattle.algebra.specs.Ring.{zero-mul, sub-add, mul-back, sub-not-zero}
-use Rattle.algebra.specs.Unique.{unique}
 
 -- the values that the quotient by x - a must have
 abbrev slope : Ops → ℕ → (ℕ → ℕ) → ℕ → ℕ
@@ -60,9 +58,3 @@ module _ {O : Ops} (F : IsField O) where
 
   pub interpolate-degree : (t : ℕ) (xs : List ℕ) (y : ℕ → ℕ) → length xs ≡ suc t → ((x : ℕ) → In x xs → y x < q) → Degree O t (interpolate O xs y)
   interpolate-degree t xs y s h = record { size = length-interpolate xs y ∙ s; below = below-interpolate xs y h }
-
-  -- the one polynomial is found again from its values
-  pub interpolate-eval : (xs p : List ℕ) → Points q xs → length p ≡ length xs → Below q p → interpolate O xs (eval O p) ≡ p
-  interpolate-eval xs p P s b =
-      unique F xs (interpolate O xs (eval O p)) p P (le-of-eq (length-interpolate xs (eval O p))) (length-interpolate xs (eval O p) ∙ sym s)
-      (below-interpolate xs (eval O p) (λ x m. eval-lt F p x)) b (eval-interpolate xs (eval O p) P (λ x m. eval-lt F p x))

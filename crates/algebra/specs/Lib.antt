@@ -12,6 +12,5 @@ pub mod Poly
 pub mod Ratio
 pub mod Ring
 pub mod Secrecy
-pub mod Through
 pub mod Total
 pub mod Unique

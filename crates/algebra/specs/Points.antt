@@ -1,14 +1,13 @@
 -- Points: numbers below q, pairwise different. `Points q (0 ∷ xs)` says that the points xs are different and none of them is 0.
 -- Assumes nothing.
-use Prim.Native.Nat.{ℕ, suc, _+_, _≤_, _<_}
+use Prim.Native.Nat.{ℕ, _+_, _≤_, _<_}
 use mathlib.Core.Path.{_≡_, subst}
 use mathlib.Core.Bool.{Bool}
 use mathlib.Core.Logic.{inr}
 use mathlib.Core.List.{List, _∷_}
-use native.Mathlib.Omega.{arith}
 use lib.ListN.{take}
 use Rattle.lists.specs.Below.{Below, below-head, below-tail, below-cons, below-take}
-use Rattle.lists.specs.Chosen.{chosen, chosen-in, different-chosen, below-chosen}
+use Rattle.lists.specs.Chosen.{chosen, different-chosen, below-chosen}
 use Rattle.lists.specs.Different.{Different, different-take}
 use Rattle.lists.specs.From.{from, different-from, below-from}
 use Rattle.lists.specs.Member.{In, below-in}
@@ -38,19 +37,8 @@ points-in {q} {xs} P = below-in q xs (P .below)
 pub points-chosen : {q : ℕ} {xs : List ℕ} (f : ℕ → Bool) → Points q xs → Points q (chosen f xs)
 points-chosen {q} {xs} f P = record { below = below-chosen q f xs (P .below); different = different-chosen f xs (P .different) }
 
--- the same beside one more point, such as 0
-pub points-chosen-beside : {q a : ℕ} {xs : List ℕ} (f : ℕ → Bool) → Points q (a ∷ xs) → Points q (a ∷ chosen f xs)
-points-chosen-beside {q} {a} {xs} f P =
-    let T = points-chosen f (points-tail P) in
-    record { below = below-cons q a (chosen f xs) (points-head P) (T .below); different = ((λ m. P .different .0 (chosen-in f xs a m)), T .different) }
-
 pub points-take : {q : ℕ} {xs : List ℕ} (n : ℕ) → Points q xs → Points q (take n xs)
 points-take {q} {xs} n P = record { below = below-take q n xs (P .below); different = different-take n xs (P .different) }
 
 pub points-from : (q a k : ℕ) → a + k ≤ q → Points q (from a k)
 points-from q a k l = record { below = below-from q a k l; different = different-from a k }
-
--- the numbers 1..n, none of them 0
-pub points-from-one : (q n : ℕ) → n < q → Points q (0 ∷ from 1 n)
-unfolding from
-points-from-one q n l = points-from q 0 (suc n) (omega arith)

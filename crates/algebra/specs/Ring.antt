@@ -69,7 +69,7 @@ module _ {O : Ops} (F : IsField O) where
   pub zero-mul : (a : ℕ) → 0 ⊗ a ≡ 0
   zero-mul a = mul-comm 0 a ∙ mul-zero a
 
-  pub sub-zero-eq : (a b : ℕ) → a < q → b < q → a ⊖ b ≡ 0 → a ≡ b
+  sub-zero-eq : (a b : ℕ) → a < q → b < q → a ⊖ b ≡ 0 → a ≡ b
   sub-zero-eq a b ha hb e = sym (sub-add a b ha) ∙ ap (λ (d : ℕ). b ⊕ d) e ∙ F .add-zero b hb
 
   pub sub-not-zero : (a b : ℕ) → a < q → b < q → (a ≡ b → ⊥) → a ⊖ b ≡ 0 → ⊥

@@ -23,12 +23,9 @@ pub record Gives (O : Ops) (xs : List ℕ) (y : ℕ → ℕ) (c : ℕ) (cs : Lis
   pub below : Below (O .q) cs
   pub values : (x : ℕ) → In x xs → eval O (c ∷ cs) x ≡ y x
 
-abbrev pub higher : Ops → List ℕ → (ℕ → ℕ) → ℕ → List ℕ
+-- the higher coefficients that do
+abbrev higher : Ops → List ℕ → (ℕ → ℕ) → ℕ → List ℕ
 higher O xs y c = interpolate O xs (λ x. O .mul (O .sub (y x) c) (O .inv x))
-
--- the higher coefficients that, behind c′, give the same values as cs behind c
-abbrev pub exchange : Ops → List ℕ → ℕ → ℕ → List ℕ → List ℕ
-exchange O xs c c′ cs = higher O xs (eval O (c ∷ cs)) c′
 
 module _ {O : Ops} (F : IsField O) where
   infixl 60 _⊕_ _⊖_
@@ -36,7 +33,7 @@ module _ {O : Ops} (F : IsField O) where
   open Ops O using (q, add as _⊕_, sub as _⊖_, mul as _⊗_, inv)
 
   module _ (xs : List ℕ) (c : ℕ) (P : Points q (0 ∷ xs)) (h : c < q) where
-    pub higher-gives : (y : ℕ → ℕ) → ((x : ℕ) → In x xs → y x < q) → Gives O xs y c (higher O xs y c)
+    higher-gives : (y : ℕ → ℕ) → ((x : ℕ) → In x xs → y x < q) → Gives O xs y c (higher O xs y c)
     unfolding eval
     higher-gives y hy =
         let z : ℕ → ℕ = λ x. (y x ⊖ c) ⊗ inv x in
@@ -49,7 +46,7 @@ module _ {O : Ops} (F : IsField O) where
               ∙ sub-add F (y x) c (hy x m);
         }
 
-    pub higher-only : (y : ℕ → ℕ) (cs cs′ : List ℕ) → Gives O xs y c cs → Gives O xs y c cs′ → cs ≡ cs′
+    higher-only : (y : ℕ → ℕ) (cs cs′ : List ℕ) → Gives O xs y c cs → Gives O xs y c cs′ → cs ≡ cs′
     higher-only y cs cs′ g g′ =
         let l : length (c ∷ cs) ≤ length (0 ∷ xs) = omega (arith, g .size) in
         let s : length (c ∷ cs) ≡ length (c ∷ cs′) = omega (arith, g .size, g′ .size) in
@@ -60,20 +57,9 @@ module _ {O : Ops} (F : IsField O) where
         same x (inl e) = rw e (eval-zero F c cs h ∙ sym (eval-zero F c cs′ h))
         same x (inr m) = g .values x m ∙ sym (g′ .values x m)
 
-    pub exactly-one : (y : ℕ → ℕ) → ((x : ℕ) → In x xs → y x < q) → ExactlyOne (Gives O xs y c)
+    exactly-one : (y : ℕ → ℕ) → ((x : ℕ) → In x xs → y x < q) → ExactlyOne (Gives O xs y c)
     exactly-one y hy = record { one = higher O xs y c; holds = higher-gives y hy; only = λ cs g. higher-only y cs (higher O xs y c) g (higher-gives y hy) }
 
   -- the same values from another constant: to each choice of higher coefficients for c belongs exactly one for c′
-  module _ (xs : List ℕ) (c c′ : ℕ) (P : Points q (0 ∷ xs)) (h′ : c′ < q) (cs : List ℕ) where
-    pub exchange-gives : Gives O xs (eval O (c ∷ cs)) c′ (exchange O xs c c′ cs)
-    exchange-gives = higher-gives xs c′ P h′ (eval O (c ∷ cs)) (λ x m. eval-lt F (c ∷ cs) x)
-
-    pub exchange-exactly-one : ExactlyOne (Gives O xs (eval O (c ∷ cs)) c′)
-    exchange-exactly-one = exactly-one xs c′ P h′ (eval O (c ∷ cs)) (λ x m. eval-lt F (c ∷ cs) x)
-
-  pub exchange-back : (xs : List ℕ) (c c′ : ℕ) → Points q (0 ∷ xs) → c < q → c′ < q → (cs : List ℕ) → length cs ≡ length xs → Below q cs
-      → exchange O xs c′ c (exchange O xs c c′ cs) ≡ cs
-  exchange-back xs c c′ P h h′ cs s b =
-      let cs′ = exchange O xs c c′ cs in
-      higher-only xs c P h (eval O (c′ ∷ cs′)) (exchange O xs c′ c cs′) cs (exchange-gives xs c′ c P h cs′)
-      (record { size = s; below = b; values = λ x m. sym (exchange-gives xs c c′ P h′ cs .values x m) })
+  pub exchange-exactly-one : (xs : List ℕ) (c c′ : ℕ) → Points q (0 ∷ xs) → c′ < q → (cs : List ℕ) → ExactlyOne (Gives O xs (eval O (c ∷ cs)) c′)
+  exchange-exactly-one xs c c′ P h′ cs = exactly-one xs c′ P h′ (eval O (c ∷ cs)) (λ x m. eval-lt F (c ∷ cs) x)

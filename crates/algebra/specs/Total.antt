@@ -1,6 +1,6 @@
 -- The sum of a function's values at the numbers of a list.
 -- Assumes nothing.
-use Prim.Native.Nat.{ℕ, _<_}
+use Prim.Native.Nat.{ℕ}
 use mathlib.Core.Path.{_≡_, refl, sym, ap, ap₂, _∙_}
 use mathlib.Core.Logic.{inl, inr}
 use mathlib.Core.List.{List, [], _∷_}
@@ -21,11 +21,6 @@ module _ {O : Ops} (F : IsField O) where
   infixl 60 _⊕_
   infixl 70 _⊗_
   open Ops O using (q, add as _⊕_, mul as _⊗_)
-
-  pub total-lt : (f : ℕ → ℕ) (xs : List ℕ) → total O f xs < q
-  unfolding total
-  total-lt f [] = zero-lt F
-  total-lt f (x ∷ xs) = F .add-lt (f x) (total O f xs)
 
   add-pairs : (a b c d : ℕ) → a ⊕ b ⊕ (c ⊕ d) ≡ a ⊕ c ⊕ (b ⊕ d)
   add-pairs a b c d = simp (ring, F)

@@ -1,7 +1,6 @@
 -- A block: 254 words, whatever they mean, and the two check words after them.
 -- Assumes nothing.
-use Prim.Native.Nat.{ℕ, _*_, _%_, _^_, _<_}
-use mathlib.Core.Path.{_≡_}
+use Prim.Native.Nat.{ℕ, _*_, _%_, _^_}
 use mathlib.Core.Bool.{Bool, true, cond, _&&_}
 use mathlib.Core.List.{List, [], _∷_, _++_}
 use lib.Dec.{leb, eqb}
@@ -15,10 +14,6 @@ plainCheck ws = total (λ i. getD ws i 0) 254 % 257
 -- word 255: "sum of word i times 3^i, i = 0..253, modulo 257"
 abbrev pub weightedCheck : List ℕ → ℕ
 weightedCheck ws = total (λ i. getD ws i 0 * 3 ^ i) 254 % 257
-
--- the first k of these numbers are the weights 3^0, 3^1, .. modulo 257
-abbrev pub Weights : List ℕ → ℕ → Type 0
-Weights ws k = (i : ℕ) → i < k → getD ws i 0 ≡ 3 ^ i % 257
 
 -- 254 words with their check words
 unfoldable pub sealed : List ℕ → List ℕ

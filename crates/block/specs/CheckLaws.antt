@@ -39,11 +39,11 @@ below-sealed ws b =
     (below-cons 257 (weightedCheck ws) [] (omega arith) (below-nil 257)))
 
 module _ (ws : List ℕ) (size : length ws ≡ 254) where
-  pub take-sealed : take 254 (sealed ws) ≡ ws
+  take-sealed : take 254 (sealed ws) ≡ ws
   unfolding sealed
   take-sealed = take-at ws (plainCheck ws ∷ weightedCheck ws ∷ []) 254 size
 
-  pub checks-sealed : SameChecks ws (sealed ws)
+  checks-sealed : SameChecks ws (sealed ws)
   checks-sealed = rw take-sealed at (checks-take (sealed ws))
 
   word-254 : getD (sealed ws) 254 0 ≡ plainCheck ws

@@ -1,7 +1,7 @@
 pub mod AtMostLaws
 pub mod Check
 pub mod CheckLaws
-pub mod WeightLaws
+pub mod Weights
 pub mod WordLaws
 pub mod WordParts
 pub mod Words

@@ -5,7 +5,7 @@ use mathlib.Core.Path.{_≡_, refl}
 use mathlib.Core.List.{List, [], _∷_, _++_}
 use native.Mathlib.Nat.{not-suc-le-zero}
 use native.Mathlib.Omega.{arith}
-use lib.ListN.{length, getD, take, drop, replicate}
+use lib.ListN.{length, getD, take, drop}
 use lib.Seq.{length-take-le, take-all}
 use Rattle.lists.specs.Patched.{patched}
 use Rattle.block.specs.WordLaws.{words-bytes}
@@ -53,23 +53,11 @@ words-drop (suc n) [] = rw (double n)
 words-drop (suc n) (b ∷ []) = rw (double n)
 words-drop (suc n) (high ∷ low ∷ bs) = rw (double n) (words-drop n bs)
 
-pub words-append : (n : ℕ) (xs ys : List ℕ) → length xs ≡ 2 * n → wordsOf (xs ++ ys) ≡ wordsOf xs ++ wordsOf ys
+words-append : (n : ℕ) (xs ys : List ℕ) → length xs ≡ 2 * n → wordsOf (xs ++ ys) ≡ wordsOf xs ++ wordsOf ys
 unfolding wordsOf
 words-append n [] ys size = refl
 words-append n (b ∷ []) ys size = absurd (omega arith)
 words-append n (high ∷ low ∷ xs) ys size = rw (words-append (n - 1) xs ys (omega arith))
-
-pub bytes-take : (n : ℕ) (ws : List ℕ) → bytesOf (take n ws) ≡ take (2 * n) (bytesOf ws)
-unfolding bytesOf
-bytes-take zero ws = refl
-bytes-take (suc n) [] = rw (double n)
-bytes-take (suc n) (w ∷ ws) = rw (double n, bytes-take n ws)
-
-pub bytes-drop : (n : ℕ) (ws : List ℕ) → bytesOf (drop n ws) ≡ drop (2 * n) (bytesOf ws)
-unfolding bytesOf
-bytes-drop zero ws = refl
-bytes-drop (suc n) [] = rw (double n)
-bytes-drop (suc n) (w ∷ ws) = rw (double n) (bytes-drop n ws)
 
 pub bytes-append : (xs ys : List ℕ) → bytesOf (xs ++ ys) ≡ bytesOf xs ++ bytesOf ys
 unfolding bytesOf
@@ -84,11 +72,3 @@ words-patched bs a ws h =
     let rest = drop (2 * (a + length ws)) bs in
     rw (end, words-append a (take (2 * a) bs) (bytesOf ws ++ rest) (length-take-le (2 * a) bs h), words-append (length ws) (bytesOf ws) rest (length-bytes ws))
     (rw (words-take, words-drop, words-bytes))
-
-pub bytes-zeros : (k : ℕ) → bytesOf (replicate k 0) ≡ replicate (2 * k) 0
-unfolding bytesOf
-bytes-zeros zero = refl
-bytes-zeros (suc k) = rw (double k, bytes-zeros k)
-
-pub words-zeros : (k : ℕ) → wordsOf (replicate (2 * k) 0) ≡ replicate k 0
-words-zeros k = rw (← bytes-zeros k) (words-bytes (replicate k 0))

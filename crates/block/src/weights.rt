@@ -2,7 +2,7 @@
 ghost use mathlib.Core.Path.{_≡_};
 ghost use Prim.Native.Nat.{_^_, _%_, _≤_};
 ghost use lib.ListN.{length};
-ghost use Rattle.block.specs.Check.{Weights};
+ghost use Rattle.block.specs.Weights.{Weights};
 
 // Goes on to `to` where the first `known` stand. Each is the one `known` places before it, times 3^known, so many can be made at a time.
 fn extend(weights: &mut [u16], known: usize, to: usize, power: u16)

@@ -22,7 +22,7 @@ pub word-within : (l t i j : ℕ) → i < l → j < t → i * t + j < l * t
 word-within l t i j hi hj = omega (arith, mul-le-mul-right t hi)
 
 module _ (t : ℕ) (constants random : List ℕ) where
-  pub length-column : (j : ℕ) → length (columnOf t constants random j) ≡ length constants
+  length-column : (j : ℕ) → length (columnOf t constants random j) ≡ length constants
   unfolding columnOf
   length-column zero = refl
   length-column (suc j) = length-listed (λ i. getD random (i * t + j) 0) (length constants)

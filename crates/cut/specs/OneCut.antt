@@ -38,7 +38,7 @@ module _ {O : Ops} (F : LetterField O) {order : Order} {stamp : ℕ} {constants 
   head-lawful x k = rw (C .order-lawful, facts-lawful-keeper order x k, C .stamp-lawful) (C .length-lawful)
 
   -- keeper x's letter reads as written
-  pub letter-reads : (x : ℕ) → KeeperFacts order x → Reads (headFor order stamp (length constants) x) (shareWords O (order .t) x constants random)
+  letter-reads : (x : ℕ) → KeeperFacts order x → Reads (headFor order stamp (length constants) x) (shareWords O (order .t) x constants random)
   letter-reads x k =
       written-reads (headFor order stamp (length constants) x) (shareWords O (order .t) x constants random) (head-lawful x k)
       (length-share-words O (order .t) x constants random)

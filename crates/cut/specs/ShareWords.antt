@@ -22,7 +22,7 @@ module _ (O : Ops) (t x : ℕ) where
   length-share-words [] random = refl
   length-share-words (c ∷ cs) random = ap suc (length-share-words cs (drop t random))
 
-  pub getD-share-words : (constants random : List ℕ) (i : ℕ) → i < length constants
+  getD-share-words : (constants random : List ℕ) (i : ℕ) → i < length constants
       → getD (shareWords O t x constants random) i 0 ≡ eval O (polynomialOf t constants random i) x
   unfolding shareWords
   getD-share-words [] random i h = absurd (not-suc-le-zero h)

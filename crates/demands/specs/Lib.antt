@@ -1,3 +1,5 @@
+-- "joining accepts exactly when polynomials .. match at least max(m-f, t+f+1)"
+pub mod Accepted
 -- demand 2: "The join never gives a wrong secret. It gives the right one if .."
 pub mod Recovery
 -- "a cut tray must be accepted"
@@ -8,10 +10,10 @@ pub mod Secrecy
 pub mod Same
 -- C1..C12
 pub mod WorkedNumbers
--- what these stand on
-pub mod Accepted
-pub mod Altered
+-- the demands speak of one cut: what a cut leaves that answers 0
 pub mod CutAnswers
+-- what these stand on
+pub mod Altered
 pub mod CutPolynomials
 pub mod HeldTray
 pub mod JoinAnswers

@@ -1,4 +1,4 @@
--- "From an empty slot, with no damage between calls and every call told the same order and keeper, the desk holds the first good
+-- "From an empty slot, with no damage between calls and every call told the same order and keeper .., the desk holds the first good
 -- letter for it with the greatest stamp offered."
 -- Assumes nothing.
 use Prim.Native.Nat.{ℕ, _<_, _≤_}

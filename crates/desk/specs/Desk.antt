@@ -59,12 +59,13 @@ storePlace order keeper held letter = cond (deskRight order keeper && (eqb (leng
 unfoldable pub storeLeaves : Order → ℕ → List ℕ → List ℕ → List ℕ
 storeLeaves order keeper held letter = cond (eqb (storeNumber order keeper held letter) 0) letter held
 
+-- what storing answers and leaves: its number, the place, and the slot, which only 0 changes
 pub record StoreDone (order : Order) (keeper : ℕ) (held letter : List ℕ) (result : Stored) (left : List ℕ) : Type 0 where
   pub number : result .number ≡ storeNumber order keeper held letter
   pub place : result .place ≡ storePlace order keeper held letter
   pub leaves : left ≡ storeLeaves order keeper held letter
 
--- "Fetch hands back the held slot; it refuses with 1, 4 or 17, in that order and with an empty part."
+-- "Fetch hands back the held slot ..; it refuses with 1, 4 or 17, in that order and with an empty part." 17: "nothing good is held"
 unfoldable pub fetchNumber : Order → ℕ → List ℕ → ℕ
 fetchNumber order keeper held =
     cond (deskRight order keeper)
@@ -73,5 +74,6 @@ fetchNumber order keeper held =
     4)
     1
 
+-- the part handed back
 unfoldable pub fetched : Order → ℕ → List ℕ → List ℕ
 fetched order keeper held = cond (eqb (fetchNumber order keeper held) 0) held []

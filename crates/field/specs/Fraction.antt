@@ -1,16 +1,15 @@
 -- Modulo 257 the inverse of any product is the product of the inverses: entry 0 of the table is 0.
 -- Assumes nothing.
 use Prim.Native.Nat.{ℕ, _*_, _%_}
-use mathlib.Core.Path.{_≡_, sym, ap, _∙_}
+use mathlib.Core.Path.{_≡_, sym, _∙_}
 use mathlib.Core.Logic.{by-cases}
 use native.Mathlib.Decide.{decLt}
 use native.Mathlib.Nat.{mod-mod, mul-comm}
 use native.Mathlib.Omega.{arith}
-use lib.ListN.{getD}
 use Rattle.lists.specs.Modulus.{mod-mul-mod, mul-mod-mod}
 use Rattle.algebra.specs.Fraction.{inv-mul}
 use Rattle.field.specs.Laws.{mod257-field}
-use Rattle.field.specs.Modulo.{mod257, reciprocals}
+use Rattle.field.specs.Modulo.{mod257}
 use Rattle.field.specs.Table.{entry-zero}
 
 abbrev Splits : ℕ → ℕ → Type 0

@@ -34,7 +34,7 @@ blockCount h = blocksFor (h .length)
 abbrev pub sharePart : List ℕ → ℕ → List ℕ
 sharePart shares p = take (min (238 * p + 238) (length shares) - 238 * p) (drop (238 * p) shares)
 
-pub length-share-part : (shares : List ℕ) (p : ℕ) → length (sharePart shares p) ≡ min (238 * p + 238) (length shares) - 238 * p
+length-share-part : (shares : List ℕ) (p : ℕ) → length (sharePart shares p) ≡ min (238 * p + 238) (length shares) - 238 * p
 length-share-part shares p = rw (length-take, length-drop) (omega arith)
 
 getD-share-part : (shares : List ℕ) (p i : ℕ) → i < 238 → getD (sharePart shares p) i 0 ≡ getD shares (238 * p + i) 0

@@ -19,7 +19,7 @@ use Rattle.format.specs.Letter.{blocksFor}
 use Rattle.format.specs.LetterSizes.{blocks-facts}
 use Rattle.format.specs.Reading.{blockWords, allShares}
 
-pub block-words-part : (slot : List ℕ) (p : ℕ) → blockWords slot p ≡ take 256 (drop (256 * p) (wordsOf slot))
+block-words-part : (slot : List ℕ) (p : ℕ) → blockWords slot p ≡ take 256 (drop (256 * p) (wordsOf slot))
 block-words-part slot p =
     let doubled : 512 * p ≡ 2 * (256 * p) = omega arith in
     rw doubled (words-take 256 (drop (2 * (256 * p)) slot) ∙ rw words-drop)

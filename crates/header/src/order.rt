@@ -1,4 +1,4 @@
-// An order: how many keepers hold a secret, how many letters do not tell it, how many keepers may lie.
+// An order: how many letters tell nothing of the secret, how many keepers may lie, how many keepers there are.
 ghost use mathlib.Core.Path.{_≡_};
 ghost use Rattle.header.specs.Order.{lawfulOrder, sameOrder, lawfulKeeper};
 

@@ -19,14 +19,14 @@ use Rattle.join.specs.declared.Joined.{Joined}
 use Rattle.join.specs.Join.{answer, Outcome, few, apart, wide, joined}
 
 module _ {O : Ops} {t f n l : ℕ} {us : ℕ → Bool} {word : ℕ → ℕ → ℕ} {room : List ℕ} where
-  pub few-outcome : {result : Joined} {left : List ℕ} → Outcome O t f n us word l room result left → count us (from 1 n) < t + f + 1
+  few-outcome : {result : Joined} {left : List ℕ} → Outcome O t f n us word l room result left → count us (from 1 n) < t + f + 1
       → (result ≡ answer 6 (count us (from 1 n)) (needed t f n us) 0) × (left ≡ room)
   few-outcome (few h) g = (refl, refl)
   few-outcome (apart h none) g = absurd (omega arith)
   few-outcome (wide ps R e) g = absurd (omega (arith, reaches-many R))
   few-outcome (joined ps R e) g = absurd (omega (arith, reaches-many R))
 
-  pub apart-outcome : {result : Joined} {left : List ℕ} → Outcome O t f n us word l room result left → t + f + 1 ≤ count us (from 1 n)
+  apart-outcome : {result : Joined} {left : List ℕ} → Outcome O t f n us word l room result left → t + f + 1 ≤ count us (from 1 n)
       → ((ps : List (List ℕ)) → Reaches O t f n us word l ps → ⊥) → (result ≡ answer 7 (count us (from 1 n)) (needed t f n us) 0) × (left ≡ room)
   apart-outcome (few h) g none = absurd (omega arith)
   apart-outcome (apart h none′) g none = (refl, refl)

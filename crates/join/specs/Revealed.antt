@@ -23,7 +23,7 @@ Reveals O t n set words room number left =
     → set ≡ keeperSet (agreeing O usable words (length room) ps) n → Revealed (constants ps) room number left
 
 module _ {O : Ops} {t n set : ℕ} {words : ℕ → ℕ → ℕ} (row room : List ℕ) (recovers : Recovers O t n set words (length room) row) where
-  pub reveals : (number : ℕ) (left : List ℕ) → Revealed row room number left → Reveals O t n set words room number left
+  reveals : (number : ℕ) (left : List ℕ) → Revealed row room number left → Reveals O t n set words room number left
   reveals number left o f usable ps R e = rw (recovers f usable ps R e) at o
 
   pub reveals-bytes : allAtMost 255 row ≡ true → (left : List ℕ) → left ≡ row → Reveals O t n set words room 0 left

@@ -28,7 +28,7 @@ module _ (order : Order) (stamp l : ℕ) (tray : List ℕ) (set : ℕ) (rows : L
   same-scan : SameScan (order .n) l (member set) (usable order stamp l tray) (rowWord rows) (wordOf tray l)
   same-scan = record { same-usable = same-usable; same-words = λ x least most u i h. s .words x i (sym (same-usable x least most) ∙ u) h }
 
-  pub scanned-outcome : {O : Ops} {t f : ℕ} {room left : List ℕ} {result : Joined} → order .n ≤ 16
+  scanned-outcome : {O : Ops} {t f : ℕ} {room left : List ℕ} {result : Joined} → order .n ≤ 16
       → Outcome O t f 16 (member set) (rowWord rows) l room result left → Outcome O t f (order .n) (usable order stamp l tray) (wordOf tray l) l room result left
   scanned-outcome h o = outcome-scan same-scan (outcome-within past h o)
 

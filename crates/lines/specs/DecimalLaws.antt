@@ -50,6 +50,3 @@ decimal-more n h small = rw (last-place 19 n h, digits-same 18 (n / 10) (omega a
 -- a number below 10^(k+1) has k+1 digits at most; every number has one
 pub length-decimal : (k n : ℕ) → n < 10 ^ suc k → length (decimal n) ≤ suc k
 length-decimal k n h = digits-short 20 k n h
-
-pub decimal-some : (n : ℕ) → 1 ≤ length (decimal n)
-decimal-some n = by-digits (λ xs. 1 ≤ length xs) 19 n (omega arith) (rw length-append (omega arith))

@@ -1,7 +1,7 @@
 -- The numbers of a list that pass a test, in their order.
 -- Assumes nothing.
 use Prim.Native.Nat.{ℕ, _+_}
-use mathlib.Core.Path.{_≡_, refl, sym, ap, ap₂, _∙_}
+use mathlib.Core.Path.{_≡_, refl, sym, ap, _∙_}
 use mathlib.Core.Bool.{Bool, true, false, cond, _&&_}
 use mathlib.Core.Logic.{inl, inr}
 use mathlib.Core.List.{List, [], _∷_, _++_}
@@ -76,11 +76,6 @@ chosen-append f (x ∷ xs) ys = ap (λ (r : List ℕ). cond (f x) (x ∷ r) r) (
     step : (b : Bool) → cond b (x ∷ (chosen f xs ++ chosen f ys)) (chosen f xs ++ chosen f ys) ≡ cond b (x ∷ chosen f xs) (chosen f xs) ++ chosen f ys
     step true = refl
     step false = refl
-
-pub chosen-same : (f g : ℕ → Bool) (xs : List ℕ) → ((x : ℕ) → In x xs → f x ≡ g x) → chosen f xs ≡ chosen g xs
-unfolding chosen
-chosen-same f g [] h = refl
-chosen-same f g (x ∷ xs) h = ap₂ (λ (b : Bool) (r : List ℕ). cond b (x ∷ r) r) (h x (inl refl)) (chosen-same f g xs (λ y m. h y (inr m)))
 
 -- to count among the chosen is to count those that pass both tests
 pub count-chosen : (f g : ℕ → Bool) (xs : List ℕ) → count g (chosen f xs) ≡ count (both f g) xs

@@ -4,7 +4,7 @@ use Prim.Native.Nat.{ℕ, zero, suc, _+_, _≤_, _<_}
 use mathlib.Core.Path.{_≡_, refl, ap, sym, _∙_}
 use mathlib.Core.Logic.{inl, inr, ⊎-elim}
 use mathlib.Core.List.{List, [], _∷_, _++_}
-use native.Mathlib.Nat.{zero-add, add-zero, suc-add, eq-or-lt-of-le, not-suc-le-zero, le-of-suc-le-suc}
+use native.Mathlib.Nat.{zero-add, add-zero, suc-add, eq-or-lt-of-le}
 use native.Mathlib.Omega.{arith}
 use lib.ListN.{length, getD}
 use Rattle.lists.specs.Below.{Below}
@@ -19,12 +19,6 @@ pub length-from : (a k : ℕ) → length (from a k) ≡ k
 unfolding from
 length-from a zero = refl
 length-from a (suc k) = ap suc (length-from (suc a) k)
-
-pub getD-from : (a k i : ℕ) → i < k → getD (from a k) i 0 ≡ a + i
-unfolding from
-getD-from a zero i h = absurd (not-suc-le-zero h)
-getD-from a (suc k) zero h = omega arith
-getD-from a (suc k) (suc i) h = omega (arith, getD-from (suc a) k i (le-of-suc-le-suc h))
 
 suc-add-suc : (a k : ℕ) → suc a + k ≡ a + suc k
 suc-add-suc a k = omega arith

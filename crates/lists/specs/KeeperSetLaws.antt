@@ -4,7 +4,7 @@ use Prim.Native.Nat.{ℕ, zero, suc, _+_, _-_, _*_, _/_, _%_, _^_, _≤_, _<_}
 use mathlib.Core.Path.{_≡_, refl, sym, ap, ap₂, _∙_}
 use mathlib.Core.Bool.{Bool, true, false, true≢false}
 use mathlib.Core.Logic.{⊎-elim, by-cases}
-use native.Mathlib.Nat.{add-comm, div-eq-of-lt, zero-div, eq-or-lt-of-le, lt-of-lt-of-le, le-of-suc-le-suc, not-suc-le-zero, mul-assoc, mul-add-div-right, mul-add-mod-self-right, pow-suc, div-lt-iff-lt-mul, mod-lt}
+use native.Mathlib.Nat.{add-comm, div-eq-of-lt, eq-or-lt-of-le, lt-of-lt-of-le, le-of-suc-le-suc, not-suc-le-zero, mul-assoc, mul-add-div-right, mul-add-mod-self-right, pow-suc, div-lt-iff-lt-mul, mod-lt}
 use native.Mathlib.Decide.{decLe}
 use native.Mathlib.Numerals.{add-one, sub-one}
 use native.Mathlib.Omega.{arith}
@@ -69,9 +69,6 @@ member-past set n zero h l = absurd (not-suc-le-zero l)
 member-past set n (suc k) h l =
     member-suc set k ∙ ap (λ (i : ℕ). eqb (i % 2) 1) (div-eq-of-lt (lt-of-lt-of-le h (pow-mono (le-of-suc-le-suc l))))
 
-pub member-zero : (x : ℕ) → member 0 x ≡ false
-member-zero x = ap (λ (i : ℕ). eqb (i % 2) 1) (zero-div (2 ^ (x - 1)))
-
 -- the keepers of the set are those of 1..n that pass
 pub member-keeper-set : (test : ℕ → Bool) (n x : ℕ) → 1 ≤ x → x ≤ n → member (keeperSet test n) x ≡ test x
 unfolding keeperSet
@@ -94,10 +91,6 @@ unfolding keeperSet
 keeper-set-same f g zero h = refl
 keeper-set-same f g (suc k) h =
     ap₂ (λ (b : Bool) (s : ℕ). bit b * 2 ^ k + s) (h (suc k) (omega arith) (omega arith)) (keeper-set-same f g k (λ x l m. h x l (omega arith)))
-
--- an empty set: none of 1..n passes
-pub keeper-set-empty : (test : ℕ → Bool) (n : ℕ) → keeperSet test n ≡ 0 → (x : ℕ) → 1 ≤ x → x ≤ n → test x ≡ false
-keeper-set-empty test n e x l h = sym (member-keeper-set test n x l h) ∙ ap (λ (s : ℕ). member s x) e ∙ member-zero x
 
 -- one keeper more, in rising order: it joins, or it does not
 pub keeper-set-joined : (test : ℕ → Bool) (k : ℕ) → test (k + 1) ≡ true → keeperSet test (k + 1) ≡ keeperSet test k + 2 ^ k
@@ -151,10 +144,3 @@ module _ (base k : ℕ) (h : base < 2 ^ k) where
   pub ones-joined : ones (base + 2 ^ k) ≡ ones base + 1
   unfolding ones lib.Count.onesIn
   ones-joined = rw as-digits (ones-cat k 1 base h ∙ add-comm 1 (ones base))
-
-  pub member-joined : member (base + 2 ^ k) (k + 1) ≡ true
-  member-joined = rw (as-digits, add-one k) (member-top true base k h)
-
-  pub member-joined-before : (x : ℕ) → 1 ≤ x → x ≤ k → member (base + 2 ^ k) x ≡ member base x
-  member-joined-before zero l m = absurd (omega arith)
-  member-joined-before (suc j) l m = rw as-digits (member-low true base k h j m)

@@ -2,8 +2,8 @@
 -- Assumes nothing.
 use Prim.Native.Nat.{ℕ, zero, suc, _<_, suc-le-suc, zero-le}
 use mathlib.Core.Path.{_≡_, refl, subst, sym}
-use mathlib.Core.Logic.{_⊎_, inl, inr, ⊎-elim}
-use mathlib.Core.List.{List, [], _∷_, _++_}
+use mathlib.Core.Logic.{_⊎_, inl, inr}
+use mathlib.Core.List.{List, [], _∷_}
 use native.Mathlib.Nat.{le-of-suc-le-suc, not-suc-le-zero}
 use lib.ListN.{length, getD, take}
 use Rattle.lists.specs.Below.{Below}
@@ -31,17 +31,3 @@ in-take zero x xs m = absurd m
 in-take (suc n) x [] m = absurd m
 in-take (suc n) x (y ∷ ys) (inl e) = inl e
 in-take (suc n) x (y ∷ ys) (inr m) = inr (in-take n x ys m)
-
-pub in-append-left : (x : ℕ) (xs ys : List ℕ) → In x xs → In x (xs ++ ys)
-in-append-left x [] ys m = absurd m
-in-append-left x (y ∷ xs) ys (inl e) = inl e
-in-append-left x (y ∷ xs) ys (inr m) = inr (in-append-left x xs ys m)
-
-pub in-append-right : (x : ℕ) (xs ys : List ℕ) → In x ys → In x (xs ++ ys)
-in-append-right x [] ys m = m
-in-append-right x (y ∷ xs) ys m = inr (in-append-right x xs ys m)
-
-pub in-append : (x : ℕ) (xs ys : List ℕ) → In x (xs ++ ys) → In x xs ⊎ In x ys
-in-append x [] ys m = inr m
-in-append x (y ∷ xs) ys (inl e) = inl (inl e)
-in-append x (y ∷ xs) ys (inr m) = ⊎-elim (λ l. inl (inr l)) (λ r. inr r) (in-append x xs ys m)

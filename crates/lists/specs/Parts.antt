@@ -1,7 +1,7 @@
 -- A part of a list: what is left of a front, past its first numbers.
 -- Assumes nothing.
 use Prim.Native.Nat.{ℕ, zero, suc, _-_}
-use mathlib.Core.Path.{_≡_, refl}
+use mathlib.Core.Path.{_≡_}
 use mathlib.Core.List.{List, [], _∷_}
 use native.Mathlib.Nat.{sub-zero, suc-sub-suc, zero-sub}
 use lib.ListN.{take, drop}

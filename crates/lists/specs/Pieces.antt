@@ -10,7 +10,6 @@ use lib.ListN.{length, take, drop, length-append}
 use lib.Seq.{take-at, drop-at, take-add, take-all}
 use Rattle.lists.specs.Below.{Below, below-nil, below-append}
 use Rattle.lists.specs.Grown.{grown-same}
-use Rattle.lists.specs.Patched.{patched, patched-append}
 
 unfoldable pub pieces : (ℕ → List ℕ) → ℕ → List ℕ
 pieces f zero = []
@@ -57,10 +56,3 @@ module _ (n : ℕ) (f : ℕ → List ℕ) where
 
   pub part-pieces : (k : ℕ) → ((i : ℕ) → i < k → length (f i) ≡ n) → (p : ℕ) → p < k → take n (drop (n * p) (pieces f k)) ≡ f p
   part-pieces k size p h = rw append-nil at (part-pieces-append k size [] p h)
-
-  -- the next piece, laid over what follows
-  pub patched-pieces : (k : ℕ) → ((i : ℕ) → i < suc k → length (f i) ≡ n) → (rest : List ℕ)
-      → patched (pieces f k ++ rest) (n * k) (f k) ≡ pieces f (suc k) ++ drop n rest
-  unfolding pieces
-  patched-pieces k size rest =
-      patched-append (pieces f k) rest (n * k) (f k) (seam k size) ∙ rw (size k (omega arith), append-assoc)

@@ -19,7 +19,7 @@ pub count-suc : (f : ℕ → Bool) (k : ℕ) → count f (from 1 (suc k)) ≡ bi
 unfolding count
 count-suc f k = rw (from-suc 1 k, count-append, one-add) (omega arith)
 
-pub chosen-suc : (f : ℕ → Bool) (k : ℕ) → chosen f (from 1 (suc k)) ≡ chosen f (from 1 k) ++ cond (f (suc k)) (suc k ∷ []) []
+chosen-suc : (f : ℕ → Bool) (k : ℕ) → chosen f (from 1 (suc k)) ≡ chosen f (from 1 k) ++ cond (f (suc k)) (suc k ∷ []) []
 unfolding chosen
 chosen-suc f k = rw (from-suc 1 k, chosen-append, one-add)
 
@@ -66,7 +66,7 @@ module _ (f : ℕ → Bool) where
   reached-suc n ih false e m h = let l : m < length (chosen f (from 1 n)) = omega (arith, length-append (chosen f (from 1 n)) []) in reached-more (chosen f (from 1 n)) [] m l (ih m l)
 
 -- the first of the chosen are all of the chosen up to the last of these
-pub chosen-up-to : (f : ℕ → Bool) (n m : ℕ) → m < length (chosen f (from 1 n))
+chosen-up-to : (f : ℕ → Bool) (n m : ℕ) → m < length (chosen f (from 1 n))
     → chosen f (from 1 (getD (chosen f (from 1 n)) m 0)) ≡ take (suc m) (chosen f (from 1 n))
 unfolding from chosen
 chosen-up-to f zero m h = absurd (not-suc-le-zero h)

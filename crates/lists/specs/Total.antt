@@ -1,8 +1,8 @@
 -- The sum of what a rule gives at 0, 1, .. k - 1: it grows at its end, as a loop over an index does.
 -- Assumes nothing.
 use Prim.Native.Nat.{ℕ, zero, suc, _+_, _%_, _<_}
-use mathlib.Core.Path.{_≡_, refl, sym}
-use native.Mathlib.Nat.{add-mod, mod-mod}
+use mathlib.Core.Path.{_≡_, refl}
+use native.Mathlib.Nat.{add-mod}
 use native.Mathlib.Omega.{arith}
 use Rattle.lists.specs.Grown.{grown-same}
 
@@ -20,6 +20,3 @@ unfolding total
 total-same-mod m f g zero h = refl
 total-same-mod m f g (suc k) h =
     rw (add-mod (total f k) (f k) m, add-mod (total g k) (g k) m, total-same-mod m f g k (λ i l. h i (omega arith)), h k (omega arith))
-
-pub total-mod : (m : ℕ) (f : ℕ → ℕ) (k : ℕ) → total f k % m ≡ total (λ i. f i % m) k % m
-total-mod m f k = total-same-mod m f (λ i. f i % m) k (λ i l. sym (mod-mod (f i) m))

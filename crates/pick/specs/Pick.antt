@@ -33,7 +33,7 @@ pickRefusal order tray = cond (lawfulOrder order) (cond (eqb (length tray) (2048
 abbrev pub picked : ℕ → ℕ → ℕ → Picked
 picked number stamp l = record { number = number; stamp = stamp; length = l }
 
--- the pick's promise: a refusal; no large group; or the large group that no other comes before
+-- the pick's promise: a refusal; no large group; or the large group that no other comes after
 pub data PickDone (order : Order) (tray : List ℕ) : Picked → Type 0 where
   refused : (pickRefusal order tray ≡ 0 → ⊥) → PickDone order tray (picked (pickRefusal order tray) 0 0)
   none : pickRefusal order tray ≡ 0 → ((stamp l : ℕ) → Large order tray stamp l → ⊥) → PickDone order tray (picked 6 0 0)

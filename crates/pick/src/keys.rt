@@ -1,4 +1,4 @@
-// The key of a letter: its stamp and its length as one number. Of two letters the one that comes later has the greater key.
+// The key of a letter: its stamp and its length as one number. A greater stamp has a greater key, and of one stamp a greater length.
 ghost use mathlib.Core.Path.{_≡_};
 ghost use Prim.Native.Nat.{_*_, _≤_};
 ghost use lib.ListN.{length};

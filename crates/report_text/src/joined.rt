@@ -1,4 +1,4 @@
-// The report of the letters picked: of their join.
+// The group picked, joined and reported.
 ghost use mathlib.Core.Path.{_≡_};
 ghost use lib.ListN.{length};
 ghost use Rattle.lists.specs.KeeperSet.{keeperSet};

@@ -1,4 +1,5 @@
--- Keepers gathered in rising order, into a list of eight. Assumes nothing.
+-- Keepers gathered in rising order, into a list of eight.
+-- Assumes nothing.
 use Prim.Native.Nat.{ℕ, _+_, _-_, _≤_, _<_}
 use mathlib.Core.Path.{_≡_, sym, _∙_}
 use mathlib.Core.Bool.{Bool, true, false}

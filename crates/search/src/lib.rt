@@ -15,8 +15,8 @@ use crate::keepers::first;
 use crate::keepers::has;
 use weigh::carry_word;
 
-// Whether keeper k + 1 is among some, and its word is the one carried to it from the points.
-fn lies(points: &[u16], words: &[u16], among: u16, k: usize) -> bool
+// Whether keeper k + 1 is among some, and its word lies on the polynomial through the points' words.
+fn keeper_matches(points: &[u16], words: &[u16], among: u16, k: usize) -> bool
     requires { ⌜ Keepers (now points) ⌝ ∗ ⌜ length (now words) ≡ 16 ⌝ ∗ ⌜ k < 16 ⌝ }
     ensures { λ r. ⌜ r ≡ carriedTo mod257 (member among) (word (now (words .entry))) (now (points .entry)) (k + 1) ⌝ }
 {
@@ -31,7 +31,7 @@ fn matching(points: &[u16], words: &[u16], among: u16) -> u16
     let mut set: u16 = 0;
     let mut k = 0;
     while k < 16 {
-        if lies(points, words, among, k) {
+        if keeper_matches(points, words, among, k) {
             set = set + alone(k);
         }
         k += 1;

@@ -7,7 +7,7 @@ use native.Mathlib.Numerals.{add-one}
 use lib.ListN.{length, getD}
 use Rattle.lists.specs.Below.{Below}
 use Rattle.lists.specs.Map.{getD-map}
-use Rattle.algebra.specs.Combine.{combine, combine-lt, combine-value, factors}
+use Rattle.algebra.specs.Combine.{combine, combine-value, factors}
 use Rattle.algebra.specs.Factor.{factor}
 use Rattle.algebra.specs.Field.{Ops, IsField}
 use Rattle.algebra.specs.Points.{Points}
@@ -26,9 +26,6 @@ partly-next O xs y x k h =
     (ap₂ (λ u v. O .add (partly O xs y x k) (O .mul u v)) (getD-map y xs k h) (getD-map (λ a. factor O xs a x) xs k h))
 
 module _ {O : Ops} (F : IsField O) (xs : List ℕ) (y : ℕ → ℕ) (x : ℕ) where
-  pub carried-lt : carried O xs y x < O .q
-  carried-lt = combine-lt F (map y xs) (factors O xs x) (length xs)
-
   pub carried-value : (p : List ℕ) → Points (O .q) xs → length p ≤ length xs → Below (O .q) p
       → ((i : ℕ) → i < length xs → y (getD xs i 0) ≡ eval O p (getD xs i 0)) → carried O xs y x ≡ eval O p x
   carried-value p P l b each =

@@ -1,4 +1,4 @@
--- `desk::same_bytes` meets its contract. The loop's invariant: the lists are of one length, and the bytes passed are the same.
+-- `desk::same_bytes` meets its contract: before each turn the lists are of one length, and the bytes passed are the same.
 -- Assumes nothing.
 use Prim.Native.Nat.{ℕ, _<_, _≤_, _-_}
 use mathlib.Core.Path.{_≡_, refl, sym, ap}

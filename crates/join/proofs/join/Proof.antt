@@ -1,4 +1,5 @@
--- `join::join` meets its contract. Assumes nothing.
+-- `join::join` meets its contract: a refusal, or the outcome of what the scan gathered.
+-- Assumes nothing.
 use mathlib.Core.Path.{_≡_, refl, sym, _∙_}
 use borrow.Author.Needs.{needs}
 use Rattle.lists.specs.Zeros.{below-zeros}

@@ -1,4 +1,5 @@
--- `join::judge` meets its contract. Assumes nothing.
+-- `join::judge` meets its contract: each return is a case of the outcome.
+-- Assumes nothing.
 use Prim.Native.Nat.{ℕ, _≤_}
 use mathlib.Core.Path.{_≡_, refl, sym}
 use mathlib.Core.List.{List}

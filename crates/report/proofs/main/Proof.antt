@@ -1,4 +1,4 @@
--- `main` meets its contract: what the report wrote lies within the space lent.
+-- `report::main` meets its contract: what the report wrote lies within the space lent.
 -- Assumes nothing.
 use Prim.Native.Nat.{ℕ, _≤_}
 use mathlib.Core.Path.{_≡_, ap, _∙_}

@@ -1,4 +1,4 @@
--- `report` meets its contract: the first three bytes are the order.
+-- `report_text::report` meets its contract: the first three bytes are the order.
 -- Assumes nothing.
 use native.Mathlib.Omega.{arith}
 use borrow.Author.Needs.{needs}

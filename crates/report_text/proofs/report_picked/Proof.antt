@@ -1,4 +1,4 @@
--- `report_picked` meets its contract: by the pick's number there is only an answer, or the group picked is joined.
+-- `report_text::report_picked` meets its contract: by the pick's number there is only an answer, or the group picked is joined.
 -- Assumes nothing.
 use Prim.Native.Nat.{_-_}
 use native.Mathlib.Omega.{arith}

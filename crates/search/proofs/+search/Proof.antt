@@ -1,4 +1,5 @@
--- A keeper that is not of the set is passed by. One of the set is included, and where nothing is found with it, it is skipped. The measure is the keepers left.
+-- `search::search` meets its contract: a keeper that is not of the set is passed by; one of the set is included, and where nothing is found
+-- with it, it is skipped. The measure is the keepers left.
 -- Assumes nothing.
 use Prim.Native.Nat.{ℕ, _+_, _-_}
 use mathlib.Core.Path.{sym, _∙_}

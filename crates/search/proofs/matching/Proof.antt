@@ -1,4 +1,5 @@
--- `search::matching` meets its contract. The set so far is that of the keepers up to k that pass. Assumes nothing.
+-- `search::matching` meets its contract: the set so far is that of the keepers up to k that pass.
+-- Assumes nothing.
 use Prim.Native.Nat.{ℕ, _+_, _-_, _^_, _≤_, _<_}
 use mathlib.Core.Path.{_≡_, refl, sym, ap, ap₂, _∙_}
 use mathlib.Core.Bool.{Bool}
@@ -22,8 +23,8 @@ loop-holds : tie.Need-loop-holds Inv-loop μ-loop
 unfolding keeperSet
 loop-holds c = (search needs, refl)
 
-lies-requires : tie.Need-lies-requires Inv-loop μ-loop
-lies-requires c κs = search needs
+keeper-matches-requires : tie.Need-keeper-matches-requires Inv-loop μ-loop
+keeper-matches-requires c κs = search needs
 
 alone-requires : tie.Need-alone-requires Inv-loop μ-loop
 alone-requires c κs = search needs
@@ -43,7 +44,7 @@ loop-less c = search needs
 loop-again : tie.Need-loop-again Inv-loop μ-loop
 loop-again c =
     let here = c .before .before .before .loop in
-    let passes = sym (c .before .lies .ensures) in (
+    let passes = sym (c .before .keeper-matches .ensures) in (
       search needs,
       ⊎-elim (λ w. w .2 ∙ ap₂ _+_ (here .inv .1) (w .1 .ensures) ∙ sym (keeper-set-joined _ (here .k) (passes ∙ w .0 .taken)))
           (λ w. w .1 ∙ here .inv .1 ∙ sym (keeper-set-skipped _ (here .k) (passes ∙ w .0 .left))) (c .if1 .came),
@@ -59,7 +60,7 @@ matching-spec =
     Inv-loop
     μ-loop
     loop-holds
-    lies-requires
+    keeper-matches-requires
     alone-requires
     add-set
     add-k

@@ -1,4 +1,5 @@
--- `search::tried` meets its contract. Assumes nothing.
+-- `search::tried` meets its contract: the points are the base, and what is carried from them lies on the one polynomial through them.
+-- Assumes nothing.
 use Prim.Native.Nat.{_-_}
 use native.Mathlib.Omega.{arith}
 use borrow.Author.Needs.{needs}

@@ -1,4 +1,4 @@
--- Turn by turn the sums' front has the row's words times the factor added, and the rest is as it was.
+-- `weigh::add_row` meets its contract: turn by turn the sums' front has the row's words times the factor added, and the rest is as it was.
 -- Assumes nothing.
 use Prim.Native.Nat.{ℕ, suc, _+_, _-_, _*_, _≤_, _<_}
 use mathlib.Core.Path.{_≡_, refl, _∙_}

@@ -1,4 +1,4 @@
--- Turn by turn the sums' front is the plain sums over the points passed; at the end they are reduced, once.
+-- `weigh::carry_row` meets its contract: turn by turn the sums' front is the plain sums over the points passed; at the end they are reduced, once.
 -- Assumes nothing.
 use Prim.Native.Nat.{_+_, _-_, _*_, _≤_}
 use mathlib.Core.Path.{_≡_, refl, sym, _∙_}

@@ -1,4 +1,4 @@
--- Turn by turn the sum is what the points passed come to.
+-- `weigh::carry_word` meets its contract: turn by turn the sum is what the points passed come to.
 -- Assumes nothing.
 use Prim.Native.Nat.{ℕ, _-_, _≤_}
 use mathlib.Core.Path.{_≡_, refl, sym, _∙_}

@@ -1,4 +1,4 @@
--- Turn by turn the fraction is the factor against the points passed.
+-- `weigh::factor_of` meets its contract: turn by turn the fraction is the factor against the points passed.
 -- Assumes nothing.
 use Prim.Native.Nat.{ℕ, _+_, _-_, _≤_, _<_}
 use mathlib.Core.Path.{_≡_, refl, sym, ap, _∙_}

@@ -1,4 +1,4 @@
--- Turn by turn the row's front is the sums' remainders, and the rest is as it was.
+-- `weigh::reduce` meets its contract: turn by turn the row's front is the sums' remainders, and the rest is as it was.
 -- Assumes nothing.
 use Prim.Native.Nat.{ℕ, _-_, _%_, _≤_}
 use mathlib.Core.Path.{_≡_, refl, _∙_}

@@ -1,4 +1,5 @@
--- `agree::agreement::agreement` meets its contract. The measure is the words left. Assumes nothing.
+-- `agree::agreement::agreement` meets its contract: before each turn the set has kept step so far. The measure is the words left.
+-- Assumes nothing.
 use Prim.Native.Nat.{ℕ, _-_, _≤_}
 use mathlib.Core.Path.{_≡_, ap, _∙_}
 use native.Mathlib.Omega.{arith}

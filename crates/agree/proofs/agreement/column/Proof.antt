@@ -1,4 +1,5 @@
--- `agree::agreement::column` meets its contract. The words so far are those of the first k rows. Assumes nothing.
+-- `agree::agreement::column` meets its contract: the words so far are those of the first k rows.
+-- Assumes nothing.
 use Prim.Native.Nat.{ℕ, _+_, _-_, _*_, _≤_}
 use mathlib.Core.Path.{_≡_, refl, ap, _∙_}
 use mathlib.Core.List.{List, _++_, append-nil}

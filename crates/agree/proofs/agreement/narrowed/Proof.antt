@@ -1,4 +1,5 @@
--- `agree::agreement::narrowed` meets its contract. Assumes nothing.
+-- `agree::agreement::narrowed` meets its contract: a search from the first keeper on, with as many to skip as there are past need, misses nothing.
+-- Assumes nothing.
 use Prim.Native.Nat.{ℕ, _+_, _-_, _*_}
 use mathlib.Core.Path.{_≡_, ap, _∙_, subst⁻¹}
 use mathlib.Core.List.{List}

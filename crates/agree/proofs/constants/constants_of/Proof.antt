@@ -1,4 +1,5 @@
--- `agree::constants::constants_of` meets its contract. Assumes nothing.
+-- `agree::constants::constants_of` meets its contract: words carried to 0 from keepers that agree are the constants.
+-- Assumes nothing.
 use native.Mathlib.Omega.{arith}
 use borrow.Author.Needs.{needs}
 use Rattle.field.specs.Laws.{mod257-field}

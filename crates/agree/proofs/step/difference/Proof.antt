@@ -1,4 +1,5 @@
--- `agree::step::difference` meets its contract. Assumes nothing.
+-- `agree::step::difference` meets its contract: rows that are the same differ nowhere, and of others the words passed are alike.
+-- Assumes nothing.
 use Prim.Native.Nat.{ℕ, _+_, _-_, _<_}
 use mathlib.Core.Path.{_≡_, sym, ap, _∙_}
 use mathlib.Core.List.{List}

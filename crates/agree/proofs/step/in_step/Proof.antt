@@ -1,4 +1,5 @@
--- `agree::step::in_step` meets its contract. Assumes nothing.
+-- `agree::step::in_step` meets its contract: before each turn the keepers up to k are in step up to `end`.
+-- Assumes nothing.
 use Prim.Native.Nat.{_+_, _-_}
 use mathlib.Core.Path.{refl, sym, ap, _∙_}
 use mathlib.Core.Logic.{⊎-elim}

@@ -1,4 +1,5 @@
--- `agree::step::row_in_step` meets its contract. Assumes nothing.
+-- `agree::step::row_in_step` meets its contract: what is compared with the keeper's row is the row carried to it.
+-- Assumes nothing.
 use Prim.Native.Nat.{ℕ, _+_, _-_, _*_, _<_}
 use mathlib.Core.Path.{_≡_, sym, ap, _∙_}
 use mathlib.Core.List.{List}

@@ -1,13 +1,12 @@
 -- `block::bounds::all_at_most` meets its contract: the largest word so far tells of all so far.
 -- Assumes nothing.
 use Prim.Native.Nat.{_+_, _-_, _≤_, _<_, max}
-use mathlib.Core.Path.{_≡_, sym, ap, _∙_}
+use mathlib.Core.Path.{_≡_, sym}
 use native.Mathlib.Omega.{arith}
-use lib.ListN.{length, getD, take, drop, length-drop}
+use lib.ListN.{length, getD, drop, length-drop}
 use lib.Seq.{getD-drop}
 use borrow.Author.Needs.{needs}
 use Rattle.block.specs.AtMostLaws.{Largest, largest-none, largest-more}
-use Rattle.block.specs.Check.{allAtMost}
 use Rattle.block.specs.WordParts.{length-words}
 use Rattle.block.specs.Words.{wordsOf}
 use Rattle.block.proofs.bounds.all_at_most.Statement.{statement}

@@ -1,4 +1,4 @@
--- The two tests of the code are the two of the definition, since the sums are its check words.
+-- `block::check::agrees` meets its contract: the two tests of the code are the two of the definition, since the sums are its check words.
 -- Assumes nothing.
 use mathlib.Core.Path.{sym, _∙_}
 use borrow.Author.Needs.{needs}

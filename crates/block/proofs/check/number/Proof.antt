@@ -1,4 +1,4 @@
--- The code asks the definition's questions in the definition's order.
+-- `block::check::number` meets its contract: the code asks the definition's questions in the definition's order.
 -- Assumes nothing.
 use mathlib.Core.Path.{_≡_, _∙_}
 use borrow.Author.Needs.{needs}

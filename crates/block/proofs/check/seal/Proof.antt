@@ -1,4 +1,4 @@
--- The words before the check words stay, and the check words are those of the words before them.
+-- `block::check::seal` meets its contract: the words before the check words stay, and the check words are those of the words before them.
 -- Assumes nothing.
 use Prim.Native.Nat.{ℕ, _+_, _≤_}
 use mathlib.Core.Path.{_≡_, _∙_}

@@ -1,4 +1,4 @@
--- Turn by turn the sums are those of the words passed.
+-- `block::check::sums` meets its contract: turn by turn the sums are those of the words passed.
 -- Assumes nothing.
 use Prim.Native.Nat.{ℕ, _+_, _-_, _*_, _%_, _^_, _≤_, _<_}
 use mathlib.Core.Path.{_≡_, refl, ap, _∙_}

@@ -1,13 +1,12 @@
 -- `block::weights::extend` meets its contract: turn by turn one weight more stands.
 -- Assumes nothing.
-use Prim.Native.Nat.{ℕ, _-_, _*_, _%_, _^_, _≤_}
-use mathlib.Core.Path.{_≡_, _∙_}
+use Prim.Native.Nat.{_-_, _*_, _%_, _^_, _≤_}
+use mathlib.Core.Path.{_≡_}
 use native.Mathlib.Nat.{mul-le-mul}
 use native.Mathlib.Omega.{arith}
 use lib.ListN.{length, getD, length-set}
 use borrow.Author.Needs.{needs}
-use Rattle.block.specs.Check.{Weights}
-use Rattle.block.specs.WeightLaws.{weight-from, weights-more}
+use Rattle.block.specs.Weights.{Weights, weight-from, weights-more}
 use Rattle.block.proofs.weights.extend.Statement.{statement}
 use Rattle.block.proofs.weights.extend.Tie as tie
 

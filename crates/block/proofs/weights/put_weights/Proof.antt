@@ -7,8 +7,7 @@ use native.Mathlib.Nat.{not-suc-le-zero}
 use native.Mathlib.Omega.{arith}
 use lib.ListN.{length, set, length-set}
 use borrow.Author.Needs.{needs}
-use Rattle.block.specs.Check.{Weights}
-use Rattle.block.specs.WeightLaws.{weights-more}
+use Rattle.block.specs.Weights.{weights-more}
 use Rattle.block.proofs.weights.put_weights.Statement.{statement}
 use Rattle.block.proofs.weights.put_weights.Tie as tie
 

@@ -1,4 +1,4 @@
--- The pair of bytes 2 i + 1 and 2 i is word i with its bytes exchanged.
+-- `block::words::exchanged_at` meets its contract: the pair of bytes 2 i + 1 and 2 i is word i with its bytes exchanged.
 -- Assumes nothing.
 use Prim.Native.Nat.{ℕ, _+_, _*_, _<_}
 use mathlib.Core.Path.{_≡_, sym, ap, _∙_}

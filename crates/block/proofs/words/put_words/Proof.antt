@@ -1,4 +1,4 @@
--- Turn by turn the first i words lie over the bytes: two stores a turn, and nothing else changes.
+-- `block::words::put_words` meets its contract: turn by turn the first i words lie over the bytes, by two stores a turn, and nothing else changes.
 -- Assumes nothing.
 use Prim.Native.Nat.{ℕ, _+_, _-_, _*_, _/_, _%_, _≤_, _<_}
 use mathlib.Core.Path.{_≡_, refl, sym, _∙_}

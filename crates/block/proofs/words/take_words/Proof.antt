@@ -1,4 +1,4 @@
--- Words whose bytes are exchanged twice are the words that stand there.
+-- `block::words::take_words` meets its contract: words whose bytes are exchanged twice are the words that stand there.
 -- Assumes nothing.
 use Prim.Native.Nat.{ℕ, _+_, _*_, _≤_, _<_}
 use mathlib.Core.Path.{_≡_, sym, ap, _∙_}

@@ -1,4 +1,4 @@
--- The pair of bytes 2 i and 2 i + 1 is word i.
+-- `block::words::word_at` meets its contract: the pair of bytes 2 i and 2 i + 1 is word i.
 -- Assumes nothing.
 use borrow.Author.Needs.{needs}
 use mathlib.Core.Path.{sym, _∙_}

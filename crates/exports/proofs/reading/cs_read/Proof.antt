@@ -1,14 +1,12 @@
 -- `exports::reading::cs_read` meets its contract: each arm is given what the slot reads as. A good head is lawful, and a fault's place is small.
 -- Assumes nothing.
-use Prim.Native.Nat.{ℕ}
-use mathlib.Core.Path.{_≡_, sym, ap, _∙_}
+use mathlib.Core.Path.{_≡_}
 use native.Mathlib.Omega.{arith}
 use borrow.Author.Needs.{needs}
 use denote.Ref.{now}
 use Rattle.format.specs.declared.reader.Reading.the-variants.{Good, Bad}
 use Rattle.format.specs.Reading.{readOf}
 use Rattle.format.specs.ReadingBounds.{good-lawful, small-place}
-use Rattle.exports.specs.Read.{readResult}
 use Rattle.exports.proofs.reading.cs_read.Statement.{statement}
 use Rattle.exports.proofs.reading.cs_read.Tie as tie
 

@@ -1,4 +1,4 @@
--- `letter::blocks` meets its contract: it computes what the definition says.
+-- `format::letter::blocks` meets its contract: it computes what the definition says.
 -- Assumes nothing.
 use borrow.Author.Needs.{needs}
 use Rattle.format.specs.Letter.{blocksFor}

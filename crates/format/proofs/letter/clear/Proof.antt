@@ -1,4 +1,4 @@
--- `letter::clear` meets its contract. The loop's invariant: the first i bytes are zeros, and the others as they were.
+-- `format::letter::clear` meets its contract: before each turn the first i bytes are zeros, and the others as they were.
 -- Assumes nothing.
 use Prim.Native.Nat.{ℕ, _≤_, _-_}
 use mathlib.Core.Path.{_≡_, _∙_, ap}

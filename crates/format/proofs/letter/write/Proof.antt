@@ -1,4 +1,4 @@
--- `letter::write` meets its contract, block by block, over zeros.
+-- `format::letter::write` meets its contract, block by block, over zeros.
 -- Assumes nothing.
 use Prim.Native.Nat.{_-_}
 use mathlib.Core.Path.{sym, _∙_}

@@ -1,4 +1,4 @@
--- `letter::write_block` meets its contract: header words, share words and zeros are laid one after the other, and sealed.
+-- `format::letter::write_block` meets its contract: header words, share words and zeros are laid one after the other, and sealed.
 -- Assumes nothing.
 use mathlib.Core.Path.{ap, _∙_}
 use borrow.Author.Needs.{needs}

@@ -1,4 +1,4 @@
--- `reader::block_at` meets its contract: the part that it lends is 512 bytes long.
+-- `format::reader::block_at` meets its contract: the part that it lends is 512 bytes long.
 -- Assumes nothing.
 use borrow.Author.Needs.{needs}
 use Prim.Native.Nat.{_+_, _-_, _*_}

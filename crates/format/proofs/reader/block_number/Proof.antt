@@ -1,4 +1,4 @@
--- `reader::block_number` meets its contract: the first of its numbers that is not 0 is the definition's.
+-- `format::reader::block_number` meets its contract: the first of its numbers that is not 0 is the definition's.
 -- Assumes nothing.
 use mathlib.Core.Path.{_∙_}
 use borrow.Author.Needs.{needs}

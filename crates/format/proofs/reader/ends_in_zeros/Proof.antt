@@ -1,4 +1,4 @@
--- `reader::ends_in_zeros` meets its contract: the words that it looks at are the share words past l and the words past the last block.
+-- `format::reader::ends_in_zeros` meets its contract: the words that it looks at are the share words past l and the words past the last block.
 -- Assumes nothing.
 use Prim.Native.Nat.{ℕ, _+_, _-_, _*_, _≤_}
 use mathlib.Core.Path.{_≡_, sym, ap, _∙_}

@@ -1,4 +1,4 @@
--- `reader::first_of` meets its contract: its tests are the definition's.
+-- `format::reader::first_of` meets its contract: its tests are the definition's.
 -- Assumes nothing.
 use mathlib.Core.Path.{sym}
 use Rattle.header.specs.FirstOf.{first-right, first-wrong}

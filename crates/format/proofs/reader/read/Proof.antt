@@ -1,4 +1,4 @@
--- `reader::read` meets its contract: block 0 is judged by what it says itself, and the others by what block 0 says.
+-- `format::reader::read` meets its contract: block 0 is judged by what it says itself, and the others by what block 0 says.
 -- Assumes nothing.
 use mathlib.Core.Path.{_≡_, sym, _∙_}
 use native.Mathlib.Omega.{arith}

@@ -1,4 +1,4 @@
--- `reader::read_on` meets its contract, block by block: what the blocks from place 1 on come to, the blocks from place p on come to.
+-- `format::reader::read_on` meets its contract, block by block: what the blocks from place 1 on come to, the blocks from place p on come to.
 -- Assumes nothing.
 use borrow.Author.Needs.{needs}
 use Prim.Native.Nat.{_-_}

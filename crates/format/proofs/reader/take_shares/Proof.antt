@@ -1,4 +1,4 @@
--- `reader::take_shares` meets its contract, block by block.
+-- `format::reader::take_shares` meets its contract, block by block.
 -- Assumes nothing.
 use Prim.Native.Nat.{_-_}
 use native.Mathlib.Omega.{arith}

@@ -1,4 +1,4 @@
--- `reader::unless` meets its contract, by the test.
+-- `format::reader::unless` meets its contract, by the test.
 -- Assumes nothing.
 use Rattle.format.proofs.reader.unless.Statement.{statement}
 use Rattle.format.proofs.reader.unless.Tie as tie

@@ -1,4 +1,4 @@
--- `head::head_of` meets its contract: its parts are the definition's.
+-- `header::head::head_of` meets its contract: its parts are the definition's.
 -- Assumes nothing.
 use borrow.Author.Needs.{needs}
 use Rattle.header.specs.Head.{headOf}

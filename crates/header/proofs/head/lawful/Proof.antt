@@ -1,4 +1,4 @@
--- `head::lawful` meets its contract: its tests are the definition's, in their order.
+-- `header::head::lawful` meets its contract: its tests are the definition's, in their order.
 -- Assumes nothing.
 use borrow.Author.Needs.{needs}
 use Rattle.header.specs.Head.{lawfulHead}

@@ -1,4 +1,4 @@
--- `head::order_of` meets its contract: its three words are the definition's.
+-- `header::head::order_of` meets its contract: its three words are the definition's.
 -- Assumes nothing.
 use borrow.Author.Needs.{needs}
 use Rattle.header.proofs.head.order_of.Statement.{statement}

@@ -1,4 +1,4 @@
--- `head::same` meets its contract: its tests are the definition's, in their order.
+-- `header::head::same` meets its contract: its tests are the definition's, in their order.
 -- Assumes nothing.
 use borrow.Author.Needs.{needs}
 use Rattle.header.specs.Head.{sameHead}

@@ -1,4 +1,4 @@
--- `head::words` meets its contract: the numbers of a lawful head fit words.
+-- `header::head::words` meets its contract: the numbers of a lawful head fit words.
 -- Assumes nothing.
 use borrow.Author.Needs.{needs}
 use native.Mathlib.Nat.{div-one}

@@ -1,4 +1,4 @@
--- `order::has_keeper` meets its contract: its tests are the definition's, in their order.
+-- `header::order::has_keeper` meets its contract: its tests are the definition's, in their order.
 -- Assumes nothing.
 use Rattle.header.specs.Order.{lawfulKeeper}
 use Rattle.header.specs.Chain.{chain}

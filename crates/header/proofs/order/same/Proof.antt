@@ -1,4 +1,4 @@
--- `order::same` meets its contract: its tests are the definition's, in their order.
+-- `header::order::same` meets its contract: its tests are the definition's, in their order.
 -- Assumes nothing.
 use Rattle.header.specs.Order.{sameOrder}
 use Rattle.header.specs.Chain.{chain}

@@ -1,4 +1,4 @@
--- `rules::place_right` meets its contract: its tests are the definition's, in their order.
+-- `header::rules::place_right` meets its contract: its tests are the definition's, in their order.
 -- Assumes nothing.
 use borrow.Author.Needs.{needs}
 use Rattle.header.specs.Chain.{chain}

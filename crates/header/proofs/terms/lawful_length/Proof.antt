@@ -1,4 +1,4 @@
--- `terms::lawful_length` meets its contract: its tests are the definition's, in their order.
+-- `header::terms::lawful_length` meets its contract: its tests are the definition's, in their order.
 -- Assumes nothing.
 use Rattle.header.specs.Chain.{chain}
 use Rattle.header.proofs.terms.lawful_length.Statement.{statement}

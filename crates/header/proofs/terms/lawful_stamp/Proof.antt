@@ -1,4 +1,4 @@
--- `terms::lawful_stamp` meets its contract: that a stamp is at most 4,294,967,295 its type says.
+-- `header::terms::lawful_stamp` meets its contract: that a stamp is at most 4,294,967,295 its type says.
 -- Assumes nothing.
 use mathlib.Core.Bool.{and-true}
 use native.Mathlib.Omega.{arith}

@@ -1,4 +1,4 @@
--- `terms::terms_number` meets its contract: its tests are the definition's, in their order.
+-- `header::terms::terms_number` meets its contract: its tests are the definition's, in their order.
 -- Assumes nothing.
 use mathlib.Core.Path.{_≡_, sym, _∙_}
 use mathlib.Core.Bool.{true}

@@ -1,4 +1,5 @@
--- `join::bytes::put_bytes` meets its contract. The first i bytes of the room are the first i words. Assumes nothing.
+-- `join::bytes::put_bytes` meets its contract: the first i bytes of the room are the first i words.
+-- Assumes nothing.
 use Prim.Native.Nat.{ℕ, _+_, _-_, _<_, _≤_}
 use mathlib.Core.Path.{_≡_, refl, sym, _∙_}
 use mathlib.Core.List.{List}

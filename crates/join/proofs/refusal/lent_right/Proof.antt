@@ -1,4 +1,5 @@
--- `join::refusal::lent_right` meets its contract. Assumes nothing.
+-- `join::refusal::lent_right` meets its contract: its tests are the definition's, in their order.
+-- Assumes nothing.
 use borrow.Author.Needs.{needs}
 use borrow.Author.Tests.{eq-eqb, ne-eqb}
 use Rattle.join.proofs.refusal.lent_right.Statement.{statement}

@@ -1,4 +1,5 @@
--- `join::refusal::refusal` meets its contract: what is told first, then what is lent. Assumes nothing.
+-- `join::refusal::refusal` meets its contract: what is told first, then what is lent.
+-- Assumes nothing.
 use mathlib.Core.Path.{_≡_, sym, _∙_}
 use borrow.Author.Needs.{needs}
 use Rattle.header.specs.FirstOf.{first-right, first-wrong}

@@ -1,4 +1,5 @@
--- `join::secret::reveal` meets its contract. Assumes nothing.
+-- `join::secret::reveal` meets its contract: the row holds the constants, and they are written where each is a byte.
+-- Assumes nothing.
 use mathlib.Core.Path.{sym, _∙_}
 use borrow.Author.Needs.{needs}
 use Rattle.join.specs.Revealed.{reveals-bytes, reveals-wide}

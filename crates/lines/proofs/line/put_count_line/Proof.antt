@@ -1,4 +1,4 @@
--- The line is written piece by piece, each right behind the one before.
+-- `lines::line::put_count_line` meets its contract: the line is written piece by piece, each right behind the one before.
 -- Assumes nothing.
 use native.Mathlib.Omega.{arith}
 use borrow.Author.Needs.{needs}

@@ -1,4 +1,4 @@
--- The number is written right behind its name.
+-- `lines::line::put_named` meets its contract: the number is written right behind its name.
 -- Assumes nothing.
 use native.Mathlib.Omega.{arith}
 use borrow.Author.Needs.{needs}

@@ -1,4 +1,4 @@
--- Each arm writes its own word.
+-- `lines::line::put_word` meets its contract: each arm writes its own word.
 -- Assumes nothing.
 use native.Mathlib.Omega.{arith}
 use borrow.Author.Needs.{needs}

@@ -1,4 +1,5 @@
--- A number of one digit is one store. Else what stands before the last digit is written first, by a call at a tenth of the number. The measure is the number.
+-- `lines::text::put_decimal` meets its contract: a number of one digit is one store; of any other, what stands before the last digit is
+-- written first, by a call at a tenth of the number. The measure is the number.
 -- Assumes nothing.
 use Prim.Native.Nat.{ℕ, _+_, _/_, _%_, _≤_}
 use native.Mathlib.Omega.{arith}

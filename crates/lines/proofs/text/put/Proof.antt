@@ -1,4 +1,4 @@
--- Turn by turn the first i bytes are written, one store a turn.
+-- `lines::text::put` meets its contract: turn by turn the first i bytes are written, one store a turn.
 -- Assumes nothing.
 use Prim.Native.Nat.{_+_, _-_, _≤_}
 use mathlib.Core.Path.{_≡_, refl}

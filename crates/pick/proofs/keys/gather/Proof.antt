@@ -1,4 +1,4 @@
--- `keys::gather` meets its contract: the keys are listed from the front.
+-- `pick::keys::gather` meets its contract: the keys are listed from the front.
 -- Assumes nothing.
 use Prim.Native.Nat.{_-_}
 use native.Mathlib.Omega.{arith}

@@ -1,4 +1,4 @@
--- `keys::key_in` meets its contract: what the slot reads as decides, and of a good letter its head.
+-- `pick::keys::key_in` meets its contract: what the slot reads as decides, and of a good letter its head.
 -- Assumes nothing.
 use mathlib.Core.Path.{sym, _∙_}
 use borrow.Author.Needs.{needs}

@@ -1,4 +1,4 @@
--- `joined::report_joined` meets its contract: the join is done in a room of zeros, and its lines are written by the set of the usable keepers.
+-- `report_text::joined::report_joined` meets its contract: the join is done in a room of zeros, and its lines are written by the set of the usable keepers.
 -- Assumes nothing.
 use native.Mathlib.Omega.{arith}
 use borrow.Author.Needs.{needs}

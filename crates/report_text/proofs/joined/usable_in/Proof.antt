@@ -1,4 +1,4 @@
--- `joined::usable_in` meets its contract: the scan gathers the usable keepers.
+-- `report_text::joined::usable_in` meets its contract: the scan gathers the usable keepers.
 -- Assumes nothing.
 use mathlib.Core.Path.{refl}
 use borrow.Author.Needs.{needs}

@@ -1,4 +1,4 @@
--- `keeper::put_keeper` meets its contract: keeper k + 1 stands as the bits k of the two sets say.
+-- `report_text::keeper::put_keeper` meets its contract: keeper k + 1 stands as the bits k of the two sets say.
 -- Assumes nothing.
 use native.Mathlib.Numerals.{add-one}
 use borrow.Author.Needs.{needs}

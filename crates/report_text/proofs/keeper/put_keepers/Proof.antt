@@ -1,4 +1,4 @@
--- `keeper::put_keepers` meets its contract, keeper by keeper. The measure is the keepers left.
+-- `report_text::keeper::put_keepers` meets its contract, keeper by keeper. The measure is the keepers left.
 -- Assumes nothing.
 use Prim.Native.Nat.{_-_}
 use native.Mathlib.Omega.{arith}

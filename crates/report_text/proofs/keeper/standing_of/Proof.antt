@@ -1,4 +1,4 @@
--- `keeper::standing_of` meets its contract: its tests are the definition's, in their order.
+-- `report_text::keeper::standing_of` meets its contract: its tests are the definition's, in their order.
 -- Assumes nothing.
 use borrow.Author.Tests.{eq-eqb, ne-eqb}
 use Rattle.report_text.proofs.keeper.standing_of.Statement.{statement}

@@ -1,4 +1,4 @@
--- `line::is_told` meets its contract: its tests are the definition's, in their order.
+-- `report_text::line::is_told` meets its contract: its tests are the definition's, in their order.
 -- Assumes nothing.
 use borrow.Author.Tests.{eq-eqb, ne-eqb}
 use Rattle.report_text.proofs.line.is_told.Statement.{statement}

@@ -1,4 +1,4 @@
--- `line::put_joined_lines` meets its contract: each line is written right behind the one before, and there is room for it.
+-- `report_text::line::put_joined_lines` meets its contract: each line is written right behind the one before, and there is room for it.
 -- Assumes nothing.
 use native.Mathlib.Omega.{arith}
 use borrow.Author.Needs.{needs}

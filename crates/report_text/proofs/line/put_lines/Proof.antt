@@ -1,4 +1,4 @@
--- `line::put_lines` meets its contract: by its number a join is told, or its answer alone is.
+-- `report_text::line::put_lines` meets its contract: by its number a join is told, or its answer alone is.
 -- Assumes nothing.
 use borrow.Author.Needs.{needs}
 use Rattle.report_text.specs.Sets.{linesOf}

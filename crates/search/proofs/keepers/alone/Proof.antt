@@ -1,4 +1,5 @@
--- `search::keepers::alone` meets its contract. One bit of 16 is not shifted out. Assumes nothing.
+-- `search::keepers::alone` meets its contract: one bit of 16 is not shifted out.
+-- Assumes nothing.
 use mathlib.Core.Path.{_∙_}
 use native.Mathlib.Nat.{one-mul}
 use native.Mathlib.Omega.{arith}

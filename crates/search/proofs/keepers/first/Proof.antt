@@ -1,4 +1,5 @@
--- `search::keepers::first` meets its contract. The keepers gathered so far are those up to k, and the measure is the keepers left. Assumes nothing.
+-- `search::keepers::first` meets its contract: the keepers gathered so far are those up to k, and the measure is the keepers left.
+-- Assumes nothing.
 use Prim.Native.Nat.{_+_, _-_, _≤_, _<_}
 use mathlib.Core.Path.{refl, sym, _∙_}
 use mathlib.Core.Logic.{⊎-elim}

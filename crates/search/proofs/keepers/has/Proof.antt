@@ -1,4 +1,5 @@
--- `search::keepers::has` meets its contract. Keeper k + 1 is bit k. Assumes nothing.
+-- `search::keepers::has` meets its contract: keeper k + 1 is bit k.
+-- Assumes nothing.
 use native.Mathlib.Nat.{add-sub-cancel}
 use borrow.Author.Needs.{needs}
 use Rattle.search.proofs.keepers.has.Statement.{statement}

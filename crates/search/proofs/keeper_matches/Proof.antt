@@ -1,4 +1,5 @@
--- `search::lies` meets its contract. Assumes nothing.
+-- `search::keeper_matches` meets its contract: its tests are the definition's, in their order.
+-- Assumes nothing.
 use Prim.Native.Nat.{ℕ}
 use mathlib.Core.Path.{_≡_, sym, ap, _∙_}
 use mathlib.Core.Bool.{Bool, true, false, _&&_}
@@ -6,8 +7,8 @@ use native.Mathlib.Nat.{add-sub-cancel}
 use lib.Dec.{eqb}
 use lib.ListN.{getD}
 use borrow.Author.Needs.{needs}
-use Rattle.search.proofs.lies.Statement.{statement}
-use Rattle.search.proofs.lies.Tie as tie
+use Rattle.search.proofs.keeper_matches.Statement.{statement}
+use Rattle.search.proofs.keeper_matches.Tie as tie
 
 has-requires : tie.Need-has-requires
 has-requires c κs = search needs
@@ -42,8 +43,8 @@ returns c =
 returns-2 : tie.Need-returns-2
 returns-2 c = first-fails _ _ _ (c .before .has .ensures) (c .if1 .left)
 
-pub lies-spec : {M : Type 1} → statement M
-lies-spec =
+pub keeper-matches-spec : {M : Type 1} → statement M
+keeper-matches-spec =
     tie.close
     (tie.spec
     has-requires

@@ -1,7 +1,7 @@
--- The powers of 3 go on from those that stand.
+-- The weights of a block's words, the powers of 3 modulo 257: how more follow from those that stand.
 -- Assumes nothing.
 use Prim.Native.Nat.{ℕ, _+_, _-_, _*_, _%_, _^_, _≤_, _<_}
-use mathlib.Core.Path.{_≡_, ap, _∙_}
+use mathlib.Core.Path.{_≡_, _∙_}
 use mathlib.Core.List.{List}
 use mathlib.Core.Logic.{⊎-elim}
 use native.Mathlib.Nat.{eq-or-lt-of-le}
@@ -10,7 +10,10 @@ use lib.ListN.{length, getD, set}
 use lib.Pow.{pow-add}
 use lib.Seq.{getD-set-same, getD-set-other}
 use Rattle.lists.specs.Modulus.{mod-mul-mod, mul-mod-mod}
-use Rattle.block.specs.Check.{Weights}
+
+-- the first k of these numbers are the weights 3^0, 3^1, .. modulo 257
+abbrev pub Weights : List ℕ → ℕ → Type 0
+Weights ws k = (i : ℕ) → i < k → getD ws i 0 ≡ 3 ^ i % 257
 
 -- a weight, from the one `known` places before it
 pub weight-from : (known i : ℕ) → known ≤ i → 3 ^ (i - known) % 257 * (3 ^ known % 257) % 257 ≡ 3 ^ i % 257
