@@ -56,9 +56,9 @@ fn exchanged_at(bytes: &[u8], i: usize) -> u16
     requires { ⌜ 2 * i + 1 < length (now bytes) ⌝ }
     ensures { λ r. ⌜ r ≡ exchanged (getD (wordsOf (now (bytes .entry))) i 0) ⌝ }
 {
-    let low = bytes[2 * i];
-    let high = bytes[2 * i + 1];
-    pair(high, low)
+    let first = bytes[2 * i];
+    let second = bytes[2 * i + 1];
+    pair(second, first)
 }
 
 fn take_exchanged(bytes: &[u8], from: usize, row: &mut [u16])

@@ -11,8 +11,8 @@ ghost use Rattle.tray.specs.Tray.{headFor};
 ghost use Rattle.cut.specs.Letters.{letterFrom, LettersLent};
 use crate::rows::share_row;
 use format::letter::write;
-use header::head::Head;
 use header::order::Order;
+use tray::head_for;
 
 fn narrow(x: usize) -> u16
     requires { ⌜ x ≤ 16 ⌝ }
@@ -28,13 +28,7 @@ fn write_letter(o: Order, stamp: u32, columns: &[u16], x: usize, row: &mut [u16]
 {
     let l = row.len();
     share_row(columns, o.t, narrow(x), row);
-    let head = Head {
-        order: o,
-        keeper: x,
-        stamp,
-        length: l,
-    };
-    write(head, row, slot);
+    write(head_for(o, stamp, l, x), row, slot);
 }
 
 // Fills a tray: the letters of keepers 1..n, in their order.

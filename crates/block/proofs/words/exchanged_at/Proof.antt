@@ -13,20 +13,20 @@ use Rattle.block.proofs.words.exchanged_at.Tie as tie
 turned : (high low : ℕ) → high < 256 → low < 256 → low * 256 + high ≡ exchanged (high * 256 + low)
 turned high low h l = omega arith
 
-mul-low : tie.Need-mul-low
-mul-low c = search needs
+mul-first : tie.Need-mul-first
+mul-first c = search needs
 
-shared-slice-read-low : tie.Need-shared-slice-read-low
-shared-slice-read-low c = search needs
+shared-slice-read-first : tie.Need-shared-slice-read-first
+shared-slice-read-first c = search needs
 
-mul-high : tie.Need-mul-high
-mul-high c = search needs
+mul-second : tie.Need-mul-second
+mul-second c = search needs
 
-add-high : tie.Need-add-high
-add-high c = search needs
+add-second : tie.Need-add-second
+add-second c = search needs
 
-shared-slice-read-high : tie.Need-shared-slice-read-high
-shared-slice-read-high c = search needs
+shared-slice-read-second : tie.Need-shared-slice-read-second
+shared-slice-read-second c = search needs
 
 pair-requires : tie.Need-pair-requires
 pair-requires c κs = search needs
@@ -42,10 +42,10 @@ pub exchanged-at-spec : {M : Type 1} → statement M
 exchanged-at-spec =
     tie.close
     (tie.spec
-    mul-low
-    shared-slice-read-low
-    mul-high
-    add-high
-    shared-slice-read-high
+    mul-first
+    shared-slice-read-first
+    mul-second
+    add-second
+    shared-slice-read-second
     pair-requires
     returns)
