@@ -8,6 +8,7 @@ pub mod Untouched
 pub mod Secrecy
 -- "Any two results allowed by one promise are proved the same"
 pub mod Same
+pub mod CallsSame
 -- C1..C12
 pub mod WorkedNumbers
 -- the demands speak of one cut: what a cut leaves that answers 0

@@ -1,24 +1,15 @@
 -- `desk::same_bytes` meets its contract: before each turn the lists are of one length, and the bytes passed are the same.
 -- Assumes nothing.
 use Prim.Native.Nat.{ℕ, _<_, _≤_, _-_}
-use mathlib.Core.Path.{_≡_, refl, sym, ap}
-use mathlib.Core.Bool.{Bool, true, false}
+use mathlib.Core.Path.{_≡_, ap}
 use mathlib.Core.List.{List}
 use native.Mathlib.Omega.{arith}
 use lib.ListN.{length, getD}
-use lib.Seq.{ext-getD}
 use borrow.Author.Count.{below-more}
 use borrow.Author.Needs.{needs}
-use Rattle.lists.specs.SameBytes.{sameBytes, same-bytes-equal, equal-same-bytes}
+use Rattle.lists.specs.SameBytes.{apart-not-same, alike-same}
 use Rattle.desk.proofs.same_bytes.Statement.{statement}
 use Rattle.desk.proofs.same_bytes.Tie as tie
-
-differ : (xs ys : List ℕ) → (xs ≡ ys → ⊥) → false ≡ sameBytes xs ys
-differ xs ys apart = step (sameBytes xs ys) (same-bytes-equal xs ys)
-  where
-    step : (same : Bool) → (same ≡ true → xs ≡ ys) → false ≡ same
-    step true equal = absurd (apart (equal refl))
-    step false equal = refl
 
 abbrev Inv-loop : tie.InvT-loop
 Inv-loop a b i₀ i = (i ≤ length a) × (length a ≡ length b) × ((k : ℕ) → k < i → getD a k 0 ≡ getD b k 0)
@@ -27,7 +18,7 @@ abbrev μ-loop : tie.MeasureT-loop
 μ-loop a b i₀ i = length a - i
 
 returns : tie.Need-returns Inv-loop μ-loop
-returns c = differ _ _ (λ same. c .if1 .taken (ap length same))
+returns c = apart-not-same _ _ (λ same. c .if1 .taken (ap length same))
 
 loop-holds : tie.Need-loop-holds Inv-loop μ-loop
 loop-holds c = search needs
@@ -41,7 +32,7 @@ shared-slice-read-if2-2 c = search needs
 returns-2 : tie.Need-returns-2 Inv-loop μ-loop
 returns-2 c =
     let i = c .before .before .before .before .loop .i in
-    differ _ _ (λ same. c .if2 .taken (ap (λ (bytes : List ℕ). getD bytes i 0) same))
+    apart-not-same _ _ (λ same. c .if2 .taken (ap (λ (bytes : List ℕ). getD bytes i 0) same))
 
 add-i : tie.Need-add-i Inv-loop μ-loop
 add-i c = search needs
@@ -58,7 +49,7 @@ returns-3 c =
     let args = c .before .before .before .args in
     let a = args .a .now in
     let b = args .b .now in
-    sym (equal-same-bytes a b (ext-getD 0 a b (omega arith) (λ k l. here .inv .2 k (omega arith))))
+    alike-same a b (omega arith) (λ k l. here .inv .2 k (omega arith))
 
 pub same-bytes-spec : {M : Type 1} → statement M
 same-bytes-spec =

@@ -8,10 +8,9 @@ use mathlib.Core.Logic.{⊎-elim}
 use native.Mathlib.Nat.{not-suc-le-zero}
 use native.Mathlib.Omega.{arith}
 use lib.ListN.{length, getD}
-use lib.Seq.{ext-getD}
 use borrow.Author.Count.{below-more}
 use borrow.Author.Needs.{needs}
-use Rattle.lists.specs.SameBytes.{sameBytes, same-bytes-equal, equal-same-bytes}
+use Rattle.lists.specs.SameBytes.{sameBytes, apart-not-same, alike-same}
 use Rattle.agree.proofs.step.same_words.Statement.{statement}
 use Rattle.agree.proofs.step.same_words.Tie as tie
 
@@ -37,12 +36,8 @@ module _ {xs ys : List ℕ} {i : ℕ} where
   }
 
   passed-all : (same : Bool) → Passed xs ys i same → length xs ≤ i → length xs ≡ length ys → same ≡ sameBytes xs ys
-  passed-all true p l e = sym (equal-same-bytes xs ys (ext-getD 0 xs ys e (λ k h. p .alike refl k (omega arith))))
-  passed-all false p l e = differ (sameBytes xs ys) (λ s. p .apart refl (same-bytes-equal xs ys s))
-    where
-      differ : (test : Bool) → (test ≡ true → ⊥) → false ≡ test
-      differ true h = absurd (h refl)
-      differ false h = refl
+  passed-all true p l e = alike-same xs ys e (λ k h. p .alike refl k (omega arith))
+  passed-all false p l e = apart-not-same xs ys (p .apart refl)
 
 abbrev Inv-loop : tie.InvT-loop
 Inv-loop a b same₀ i₀ same i = Passed a b i same
