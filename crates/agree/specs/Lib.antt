@@ -11,3 +11,4 @@ pub mod ReachesLaws
 pub mod Recovers
 pub mod Rows
 pub mod ScanLaws
+pub mod SizeLaws

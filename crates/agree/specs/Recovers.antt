@@ -5,12 +5,11 @@ use mathlib.Core.Path.{_≡_, sym, ap, _∙_}
 use mathlib.Core.Bool.{Bool}
 use mathlib.Core.List.{List, [], _∷_}
 use native.Mathlib.Omega.{arith}
-use lib.Count.{ones}
 use lib.ListN.{length, getD, length-map, List·getD-map}
 use Rattle.lists.specs.Below.{below-head}
 use Rattle.lists.specs.From.{from, from-in}
 use Rattle.lists.specs.KeeperSet.{keeperSet, member}
-use Rattle.lists.specs.KeeperSetLaws.{member-passes, ones-keeper-set}
+use Rattle.lists.specs.KeeperSetLaws.{member-passes}
 use Rattle.lists.specs.Listed.{listed, listed-is, listed-same}
 use Rattle.lists.specs.Member.{In}
 use Rattle.algebra.specs.Field.{Ops, IsField}
@@ -21,18 +20,11 @@ use Rattle.agree.specs.Agreement.{Reaches, agreeing, constants}
 use Rattle.agree.specs.AgreementLaws.{agreeing-matches, matches-at}
 use Rattle.search.specs.Base.{Base, base-length, base-passes, base-within, base-points}
 use Rattle.search.specs.Carried.{carried-on}
-use Rattle.agree.specs.Kept.{Agreed}
 
 -- the constants of whatever polynomials reach need, where the set is that of the keepers that match them
 abbrev pub Recovers : Ops → ℕ → ℕ → ℕ → (ℕ → ℕ → ℕ) → ℕ → List ℕ → Type 0
 Recovers O t n set words l row =
     (f : ℕ) (usable : ℕ → Bool) (ps : List (List ℕ)) → Reaches O t f n usable words l ps → set ≡ keeperSet (agreeing O usable words l ps) n → row ≡ constants ps
-
--- such a set has t + 1 keepers to carry from
-pub agreed-size : {O : Ops} {t f n : ℕ} {usable : ℕ → Bool} {words : ℕ → ℕ → ℕ} {l set : ℕ} → Agreed O t f n usable words l set → t + 1 ≤ ones set
-agreed-size {O} {t} {f} {n} {usable} {words} {l} a =
-    let size = ap ones (a .agree) ∙ ones-keeper-set (agreeing O usable words l (a .polynomials)) n in
-    omega (arith, a .reaches .enough)
 
 constants-listed : (ps : List (List ℕ)) (l : ℕ) → length ps ≡ l → constants ps ≡ listed (λ i. getD (getD ps i []) 0 0) l
 constants-listed ps l s = listed-is (λ i. getD (getD ps i []) 0 0) l (constants ps) (length-map ps (λ p. getD p 0 0) ∙ s) (λ i h. List·getD-map (λ p. getD p 0 0) ps i [])

@@ -5,6 +5,7 @@ use mathlib.Core.Path.{_≡_, refl, ap, _∙_}
 use mathlib.Core.Bool.{Bool, true, false, cond}
 use mathlib.Core.List.{List}
 use native.Mathlib.Omega.{arith}
+use lib.Count.{ones}
 use Rattle.lists.specs.Count.{count}
 use Rattle.lists.specs.From.{from}
 use Rattle.lists.specs.KeeperSet.{keeperSet}
@@ -12,12 +13,18 @@ use Rattle.algebra.specs.Agreement.{need}
 use Rattle.algebra.specs.Field.{Ops}
 use Rattle.block.specs.Check.{allAtMost}
 use Rattle.agree.specs.Agreement.{agreeing, needed, Reaches, constants}
-use Rattle.agree.specs.Kept.{Agreed}
+use Rattle.agree.specs.Kept.{Agreed, Found}
+use Rattle.agree.specs.SizeLaws.{few-agree, enough-agree}
 use Rattle.join.specs.Join.{answer, Outcome, few, apart, wide, joined}
 use Rattle.join.specs.Revealed.{Revealed}
 
 least-needed : (t f n : ℕ) (us : ℕ → Bool) {m least : ℕ} → m ≡ count us (from 1 n) → least ≡ need m t f → least ≡ needed t f n us
 least-needed t f n us many enough = enough ∙ ap (λ (k : ℕ). need k t f) many
+
+-- "The size of the agreement is the number of ones in that set": where it reaches need, the set is that of an agreement
+pub agreed-found : {O : Ops} {t f n m least l set : ℕ} {us : ℕ → Bool} {word : ℕ → ℕ → ℕ} → m ≡ count us (from 1 n) → least ≡ need m t f
+    → Found O t f n us word l set → least ≤ ones set → Agreed O t f n us word l set
+agreed-found {t = t} {f} {n} {us = us} many enough found size = let needs = least-needed t f n us many enough in enough-agree found (omega arith)
 
 module _ {O : Ops} {t f n : ℕ} {us : ℕ → Bool} {word : ℕ → ℕ → ℕ} {l : ℕ} {room : List ℕ} where
   reaching : (ps : List (List ℕ)) → Reaches O t f n us word l ps → (bytes : Bool) → allAtMost 255 (constants ps) ≡ bytes
@@ -29,8 +36,10 @@ module _ {O : Ops} {t f n : ℕ} {us : ℕ → Bool} {word : ℕ → ℕ → ℕ
     pub few-judged : m < t + f + 1 → Outcome O t f n us word l room (answer 6 m least 0) room
     few-judged h = rw (least-needed t f n us many enough, many) (few (omega arith))
 
-    pub apart-judged : t + f + 1 ≤ m → ((ps : List (List ℕ)) → Reaches O t f n us word l ps → ⊥) → Outcome O t f n us word l room (answer 7 m least 0) room
-    apart-judged h none = rw (least-needed t f n us many enough, many) (apart (omega arith) none)
+    pub apart-judged : {set : ℕ} → t + f + 1 ≤ m → Found O t f n us word l set → ones set < least → Outcome O t f n us word l room (answer 7 m least 0) room
+    apart-judged h found size =
+        let needs = least-needed t f n us many enough in
+        rw (needs, many) (apart (omega arith) (few-agree found (omega arith)))
 
     pub agreed-judged : {set number : ℕ} {left : List ℕ} (a : Agreed O t f n us word l set) → Revealed (constants (a .polynomials)) room number left
         → Outcome O t f n us word l room (answer number m least set) left

@@ -49,7 +49,7 @@ fn judge(t: usize, f: usize, usable: u16, rows: &[u16], room: &mut [u8]) -> Join
     }
     let l = room.len();
     let set = agreement(t, f, usable, rows, l);
-    if set == 0 {
+    if u16::count_ones(set) < need {
         return answer(7, m, need, 0);
     }
     let mut row = [0u16; 952];

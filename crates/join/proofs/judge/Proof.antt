@@ -12,8 +12,8 @@ use Rattle.lists.specs.Count.{count}
 use Rattle.lists.specs.From.{from}
 use Rattle.lists.specs.KeeperSet.{member}
 use Rattle.lists.specs.KeeperSetLaws.{ones-member}
-use Rattle.agree.specs.Recovers.{agreed-size}
-use Rattle.join.specs.Judged.{few-judged, apart-judged, agreed-judged}
+use Rattle.agree.specs.SizeLaws.{agreed-size}
+use Rattle.join.specs.Judged.{few-judged, apart-judged, agreed-found, agreed-judged}
 use Rattle.join.proofs.judge.Statement.{statement}
 use Rattle.join.proofs.judge.Tie as tie
 
@@ -59,7 +59,7 @@ returns-2 c =
     let found = none .before in
     rw (c .answer2 .ensures)
     (apart-judged (many (found .before .before .before .before .before)) (found .before .before .need-of .ensures) (found .before .if1 .left)
-    (found .agreement .ensures .none (none .if2 .taken)))
+    (found .agreement .ensures) (none .if2 .taken))
 
 array-borrow-prefix-row : tie.Need-array-borrow-prefix-row
 array-borrow-prefix-row c = search needs
@@ -72,7 +72,8 @@ reveal-requires c κs =
     let found = c .before .before in
     let a = found .before .before .before .before .before .before in
     let lent = part _ _ refl (a .pre .1 .1 .1) in
-    (a .pre .0, (a .pre .1 .0, (agreed-size (found .before .agreement .ensures .some (found .if2 .left)), (lent .1, lent .0))))
+    let agreed = agreed-found (many a) (found .before .before .before .need-of .ensures) (found .before .agreement .ensures) (found .if2 .left) in
+    (a .pre .0, (a .pre .1 .0, (agreed-size agreed, (lent .1, lent .0))))
 
 answer-requires-3 : tie.Need-answer-requires-3
 answer-requires-3 c κs = search needs
@@ -85,9 +86,10 @@ returns-3 c =
     let revealed = c .before .before .before .before in
     let found = revealed .before .before .before in
     let a = found .before .before .before .before .before .before in
-    let agreed = found .before .agreement .ensures .some (found .if2 .left) in
+    let enough = found .before .before .before .need-of .ensures in
+    let agreed = agreed-found (many a) enough (found .before .agreement .ensures) (found .if2 .left) in
     rw (c .answer3 .ensures)
-    (agreed-judged (many a) (found .before .before .before .need-of .ensures) agreed
+    (agreed-judged (many a) enough agreed
     (revealed .reveal .ensures (a .args .f) (member (a .args .usable)) (agreed .polynomials) (agreed .reaches) (agreed .agree)))
 
 pub judge-spec : {M : Type 1} → statement M
