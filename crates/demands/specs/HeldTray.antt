@@ -10,37 +10,27 @@ use native.Mathlib.Nat.{mul-comm}
 use native.Mathlib.Numerals.{sub-one}
 use native.Mathlib.Omega.{arith}
 use lib.Dec.{leb, ltb}
-use lib.ListN.{length, getD, replicate, length-replicate}
+use lib.ListN.{length, getD, length-replicate}
 use borrow.Author.Tests.{lt-ltb, le-ltb, le-leb, lt-leb, leb-true}
 use Rattle.lists.specs.Below.{Below}
 use Rattle.lists.specs.Pieces.{pieces, length-pieces, part-pieces}
-use Rattle.lists.specs.Total.{total}
-use Rattle.block.specs.Check.{allAtMost, checked, blockNumber}
-use Rattle.block.specs.Words.{wordsOf}
 use Rattle.header.specs.declared.order.Order.{Order}
-use Rattle.header.specs.Head.{headOf, lawfulHead}
+use Rattle.header.specs.Head.{lawfulHead}
 use Rattle.header.specs.Order.{lawfulOrder}
 use Rattle.header.specs.OrderLaws.{facts-lawful-keeper}
-use Rattle.header.specs.Rules.{markRight}
 use Rattle.header.specs.Terms.{lawfulStamp, lawfulLength}
-use Rattle.format.specs.declared.reader.Reading.the-variants.{Bad}
-use Rattle.format.specs.Letter.{blocksFor, letterBytes}
-use Rattle.format.specs.Reading.{readOf, judgedFrom, firstFault, letterBlockNumber}
+use Rattle.format.specs.Letter.{letterBytes}
 use Rattle.format.specs.WrittenReads.{Reads, written-reads}
+use Rattle.format.specs.Zeros.{zeroSlot, zeros-read}
 use Rattle.tray.specs.Tray.{headFor, slotOf, usable, wordOf}
 use Rattle.agree.specs.ScanLaws.{SameScan}
 use Rattle.tray.specs.UsableLaws.{reads-usable}
 
 unfoldable pub heldSlot : Order → ℕ → ℕ → List (List ℕ) → ℕ → List ℕ
-heldSlot order stamp l rows k = cond (ltb k (length rows)) (letterBytes (headFor order stamp l (suc k)) (getD rows k [])) (replicate 2048 0)
+heldSlot order stamp l rows k = cond (ltb k (length rows)) (letterBytes (headFor order stamp l (suc k)) (getD rows k [])) zeroSlot
 
 unfoldable pub heldTray : Order → ℕ → ℕ → List (List ℕ) → List ℕ
 heldTray order stamp l rows = pieces (heldSlot order stamp l rows) (order .n)
-
--- "A slot of zeros gives 11 at place 0."
-pub zeros-read : readOf (replicate 2048 0) ≡ Bad 11 0
-unfolding readOf judgedFrom firstFault letterBlockNumber markRight blocksFor headOf blockNumber allAtMost checked total wordsOf
-zeros-read = refl
 
 -- letters that can be written: a lawful order, stamp and length, and l field words for each keeper that holds one
 pub record Held (order : Order) (stamp l : ℕ) (rows : List (List ℕ)) : Type 0 where
@@ -65,7 +55,7 @@ module _ {order : Order} {stamp l : ℕ} {rows : List (List ℕ)} (H : Held orde
     unfolding heldSlot
     held-letter g = rw (lt-ltb k (length rows) g)
 
-    held-zeros : length rows ≤ k → heldSlot order stamp l rows k ≡ replicate 2048 0
+    held-zeros : length rows ≤ k → heldSlot order stamp l rows k ≡ zeroSlot
     unfolding heldSlot
     held-zeros g = rw (le-ltb k (length rows) g)
 

@@ -8,9 +8,10 @@ use mathlib.Core.List.{List, [], _∷_, _++_}
 use mathlib.Core.Logic.{_⊎_, inl, inr, ⊎-elim}
 use native.Mathlib.Omega.{arith}
 use lib.Dec.{ltb}
-use lib.ListN.{length}
+use lib.ListN.{length, length-replicate}
 use borrow.Author.Tests.{ltb-true, ltb-false}
 use Rattle.header.specs.declared.order.Order.{Order}
+use Rattle.format.specs.Zeros.{zeroSlot, zeros-read}
 use Rattle.desk.specs.Desk.{stampHeld, deskRight, storeLeaves}
 use Rattle.desk.specs.GoodHere.{GoodHere, good-stamp, stamp-good}
 use Rattle.desk.specs.StoreLaws.{leaves-size, leaves-newer}
@@ -94,3 +95,8 @@ module _ (order : Order) (keeper : ℕ) where
     desk-holds empty size none offers =
         let not-good : (offer : List ℕ) → stamp offer ≤ stamp empty → GoodHere order keeper offer → ⊥ = λ offer most good. omega (arith, good-stamp order keeper offer good) in
         ⊎-elim (λ kept. inl (each-so _ _ not-good offers (kept .0), kept .1)) (λ found. inr (found .0)) (after offers empty size)
+
+    -- the same of a new desk, whose slot is all zeros
+    pub new-desk-holds : (offers : List (List ℕ)) → Holds order keeper zeroSlot offers (deskAfter order keeper zeroSlot offers)
+    unfolding stampHeld
+    new-desk-holds = desk-holds zeroSlot (length-replicate {A = ℕ} 2048 0) (rw zeros-read)

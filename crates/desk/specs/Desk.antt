@@ -9,10 +9,11 @@ use lib.ListN.{length}
 use Rattle.lists.specs.SameBytes.{sameBytes}
 use Rattle.header.specs.declared.order.Order.{Order}
 use Rattle.header.specs.declared.head.Head.{Head}
+use Rattle.header.specs.FirstOf.{firstOf}
 use Rattle.header.specs.Order.{lawfulOrder, lawfulKeeper, sameOrder}
 use Rattle.format.specs.declared.reader.Reading.{Reading}
 use Rattle.format.specs.declared.reader.Reading.the-variants.{Good, Bad}
-use Rattle.format.specs.Reading.{readOf, placeOf}
+use Rattle.format.specs.Reading.{readOf, numberOf, placeOf, readHead}
 use Rattle.desk.specs.declared.Stored.{Stored}
 
 -- a head of this desk's order and keeper
@@ -39,8 +40,9 @@ against stamp held same = cond (ltb held stamp) 0 (cond (ltb stamp held) 14 (con
 
 -- what a letter is found to be: "the letter's own 9..13", 16, "a good letter, but not of this desk's order and keeper", then 14, 15
 abbrev pub offered : Order → ℕ → List ℕ → List ℕ → Reading → ℕ
-offered order keeper held letter (Good h) = cond (ofDesk order keeper h) (against (h .stamp) (stampHeld order keeper held) (sameBytes held letter)) 16
-offered order keeper held letter (Bad number place) = number
+offered order keeper held letter reading =
+    firstOf (numberOf reading)
+    (cond (ofDesk order keeper (readHead reading)) (against (readHead reading .stamp) (stampHeld order keeper held) (sameBytes held letter)) 16)
 
 -- "A stored letter is judged in this order: 1, 4, the letter's own 9..13 (with its place), 16, 14, 15."
 unfoldable pub storeNumber : Order → ℕ → List ℕ → List ℕ → ℕ

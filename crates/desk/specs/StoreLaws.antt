@@ -10,12 +10,13 @@ use lib.ListN.{length}
 use borrow.Author.Tests.{eq-eqb, ne-eqb, eqb-true, le-ltb}
 use Rattle.lists.specs.SameBytes.{sameBytes, same-bytes-equal}
 use Rattle.header.specs.declared.order.Order.{Order}
+use Rattle.header.specs.FirstOf.{first-wrong}
 use Rattle.header.specs.Head.{headOf}
 use Rattle.header.specs.Passing.{passed}
 use Rattle.format.specs.declared.reader.Reading.{Reading}
 use Rattle.format.specs.declared.reader.Reading.the-variants.{Good, Bad}
-use Rattle.format.specs.Reading.{blockWords, judgedFrom, readOf}
-use Rattle.format.specs.ReadingBounds.{FaultsIn, fault-facts}
+use Rattle.format.specs.Reading.{blockWords, judgedFrom, readOf, noHead}
+use Rattle.format.specs.ReadingBounds.{FaultFacts, FaultsIn, fault-facts}
 use Rattle.desk.specs.Desk.{ofDesk, stampIn, stampHeld, deskRight, against, offered, storeNumber, storeLeaves}
 
 module _ (order : Order) (keeper : ℕ) (held letter : List ℕ) where
@@ -41,6 +42,11 @@ module _ (order : Order) (keeper : ℕ) (held letter : List ℕ) where
       step true same = sym (same refl)
       step false same = refl
 
+  -- the letter's own number comes first
+  pub offered-bad : (number place : ℕ) → FaultFacts number place → offered order keeper held letter (Bad number place) ≡ number
+  offered-bad number place facts =
+      first-wrong number (cond (ofDesk order keeper noHead) (against 0 (stampHeld order keeper held) (sameBytes held letter)) 16) (facts .numbered)
+
   abbrev before : ℕ
   before = stampHeld order keeper held
 
@@ -61,7 +67,7 @@ module _ (order : Order) (keeper : ℕ) (held letter : List ℕ) where
           ≡ cond (ltb before (cond our (h .stamp) 0)) letter held
       ours true = newer-taken (ltb before (h .stamp)) (ltb (h .stamp) before) (sameBytes held letter) (same-bytes-equal held letter)
       ours false = rw (le-ltb before 0 zero-le)
-  newer-read (Bad number place) facts = rw (ne-eqb number 0 (facts .numbered), le-ltb before 0 zero-le)
+  newer-read (Bad number place) facts = rw (offered-bad number place facts, ne-eqb number 0 (facts .numbered), le-ltb before 0 zero-le)
 
   module _ (right : deskRight order keeper ≡ true) (size : length held ≡ 2048) where
     -- a letter of the wrong length does not read, with the desk's own number

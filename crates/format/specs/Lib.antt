@@ -9,3 +9,4 @@ pub mod WrittenReads
 pub mod GoodWritten
 pub mod OneSlot
 pub mod ReadingBounds
+pub mod Zeros

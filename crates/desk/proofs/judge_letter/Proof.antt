@@ -1,10 +1,12 @@
 -- `desk::judge_letter` meets its contract: each arm is given what the letter reads as.
 -- Assumes nothing.
-use mathlib.Core.Path.{_≡_, refl}
+use mathlib.Core.Path.{_≡_, refl, sym}
 use borrow.Author.Needs.{needs}
 use denote.Ref.{now}
 use Rattle.format.specs.declared.reader.Reading.the-variants.{Good, Bad}
 use Rattle.format.specs.Reading.{readOf}
+use Rattle.format.specs.ReadingBounds.{fault-facts}
+use Rattle.desk.specs.StoreLaws.{offered-bad}
 use Rattle.desk.proofs.judge_letter.Statement.{statement}
 use Rattle.desk.proofs.judge_letter.Tie as tie
 
@@ -37,9 +39,11 @@ returns-2 c =
 
 returns-3 : tie.Need-returns-3
 returns-3 c =
-    let letter = now (c .before .before .before .before .before .before .args .letter) in
+    let a = c .before .before .before .before .before .before .args in
+    let letter = now (a .letter) in
     let read : readOf letter ≡ Bad (c .before .number .given .0 .0) (c .before .number .given .0 .1 .0) = cc in
-    rw read (refl, refl)
+    let number = offered-bad (a .o) (a .keeper) (now (a .held)) letter _ _ (rw read at (fault-facts letter)) in
+    rw read (sym number, refl)
 
 pub judge-letter-spec : {M : Type 1} → statement M
 judge-letter-spec =
