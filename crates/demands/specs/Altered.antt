@@ -6,7 +6,6 @@ use mathlib.Core.Bool.{Bool, not, _&&_}
 use mathlib.Core.List.{List}
 use mathlib.Core.Logic.{_⊎_}
 use native.Mathlib.Omega.{arith}
-use lib.ListN.{length}
 use Rattle.lists.specs.Below.{Below}
 use Rattle.lists.specs.Chosen.{chosen, length-chosen, count-chosen}
 use Rattle.lists.specs.Count.{count, count-not}
@@ -25,7 +24,6 @@ altered order stamp l cut tray x = usable order stamp l tray x && not (sameBytes
 
 -- "Take a cut tray, alter any slots so that at most f usable ones differ from the cut, and make any others unusable."
 pub record AtMostAltered (order : Order) (stamp l : ℕ) (cut tray : List ℕ) : Type 0 where
-  pub size : length tray ≡ length cut
   pub bytes : Below 256 tray
   pub few : count (altered order stamp l cut tray) (from 1 (order .n)) ≤ order .f
 

@@ -1,6 +1,6 @@
 -- Demand 2: of a cut tray, with at most f of its usable slots altered, the join gives the secret or none.
 -- Assumes nothing.
-use Prim.Native.Nat.{ℕ, _+_, _≤_}
+use Prim.Native.Nat.{ℕ, _+_, _*_, _≤_}
 use mathlib.Core.Path.{_≡_, _∙_}
 use mathlib.Core.Bool.{Bool}
 use mathlib.Core.List.{List}
@@ -24,7 +24,7 @@ use Rattle.agree.specs.Agreement.{matches, agreeing, needed}
 use Rattle.agree.specs.ReachesLaws.{agreeing-same}
 use Rattle.cut.specs.Cut.{cutTray}
 use Rattle.cut.specs.LetterField.{LetterField, keepers-apart, mod257-letters}
-use Rattle.cut.specs.OneCut.{OneCut, length-cut-tray}
+use Rattle.cut.specs.OneCut.{OneCut}
 use Rattle.join.specs.declared.Joined.{Joined}
 use Rattle.join.specs.Join.{answer, JoinDone}
 use Rattle.demands.specs.Accepted.{Given, zero-agreed, agreed-given}
@@ -81,9 +81,9 @@ module _ {O : Ops} (F : LetterField O) {order : Order} {stamp : ℕ} {secret ran
         given-back (rw e at g)
 
     -- "It gives the right one if m is at least t+2f+1, and also for smaller m if at least t+f+1 usable letters are unaltered."
-    pub gives-right : Below 256 secret → length room ≡ length secret → EnoughLeft order stamp (length secret) cut tray
+    pub gives-right : Below 256 secret → length tray ≡ 2048 * order .n → length room ≡ length secret → EnoughLeft order stamp (length secret) cut tray
         → GivesBack order stamp secret cut tray result left
-    gives-right bytes s many = given-back (agreed-given F D (cut-not-refused C tray room (A .size ∙ length-cut-tray F C) s) ps (record {
+    gives-right bytes s s′ many = given-back (agreed-given F D (cut-not-refused C tray room s s′) ps (record {
       reaches = record {
         polynomials = polynomials-cut F C;
         enough = ⊎-elim (λ h. omega (arith, all-but-f)) (λ h. omega (arith, all-but-f, count-agrees)) many;
@@ -91,11 +91,12 @@ module _ {O : Ops} (F : LetterField O) {order : Order} {stamp : ℕ} {secret ran
       bytes = rw (constants-cut (order .t) secret random) (below-at-most 255 secret bytes);
     }))
 
--- The page's case, "modulo the prime 257".
-pub demand-2 : {order : Order} {stamp : ℕ} {secret random tray room left : List ℕ} {result : Joined} → OneCut mod257 order stamp secret random → Below 256 secret
-    → AtMostAltered order stamp (length secret) (cutTray mod257 order stamp secret random) tray → length room ≡ length secret
+-- The page's case, "modulo the prime 257". What is lent must have its lengths, and the constants be bytes, only where an answer is promised.
+pub demand-2 : {order : Order} {stamp : ℕ} {secret random tray room left : List ℕ} {result : Joined} → OneCut mod257 order stamp secret random
+    → AtMostAltered order stamp (length secret) (cutTray mod257 order stamp secret random) tray
     → JoinDone mod257 order stamp (length secret) tray room result left
     → (result .number ≡ 0 → GivesBack order stamp secret (cutTray mod257 order stamp secret random) tray result left)
-    × (EnoughLeft order stamp (length secret) (cutTray mod257 order stamp secret random) tray
+    × (Below 256 secret → length tray ≡ 2048 * order .n → length room ≡ length secret
+    → EnoughLeft order stamp (length secret) (cutTray mod257 order stamp secret random) tray
     → GivesBack order stamp secret (cutTray mod257 order stamp secret random) tray result left)
-demand-2 C bytes A s D = (never-wrong mod257-letters C A D, gives-right mod257-letters C A D bytes s)
+demand-2 C A D = (never-wrong mod257-letters C A D, gives-right mod257-letters C A D)

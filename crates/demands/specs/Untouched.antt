@@ -21,7 +21,7 @@ use Rattle.tray.specs.UsableLaws.{reads-usable}
 use Rattle.agree.specs.Agreement.{needed}
 use Rattle.cut.specs.Cut.{cutTray}
 use Rattle.cut.specs.LetterField.{LetterField}
-use Rattle.cut.specs.OneCut.{OneCut, below-cut-tray, read-cut}
+use Rattle.cut.specs.OneCut.{OneCut, length-cut-tray, below-cut-tray, read-cut}
 use Rattle.join.specs.declared.Joined.{Joined}
 use Rattle.join.specs.Join.{answer, JoinDone}
 use Rattle.demands.specs.Altered.{unaltered, AtMostAltered, usableMany, count-usable}
@@ -51,7 +51,6 @@ module _ {O : Ops} (F : LetterField O) {order : Order} {stamp : ℕ} {secret ran
 
   none-altered : AtMostAltered order stamp (length secret) cut cut
   none-altered = record {
-    size = refl;
     bytes = below-cut-tray F C;
     few = omega (arith, count-usable order stamp (length secret) cut cut (from 1 (order .n)), all-usable, all-keepers (unaltered order stamp (length secret) cut cut) unaltered-cut);
   }
@@ -60,7 +59,7 @@ module _ {O : Ops} (F : LetterField O) {order : Order} {stamp : ℕ} {secret ran
       → (result ≡ answer 0 (order .n) (order .n - order .f) (keeperSet (λ x. true) (order .n))) × (left ≡ secret)
   untouched bytes s D =
       let o = lawful-order-facts order (C .order-lawful) in
-      let g = gives-right F C none-altered D bytes s (inl (omega (arith, all-usable, o))) in
+      let g = gives-right F C none-altered D bytes (length-cut-tray F C) s (inl (omega (arith, all-usable, o))) in
       let need : needed (order .t) (order .f) (order .n) (usable order stamp (length secret) cut) ≡ order .n - order .f = omega (arith, all-usable, o) in
       let set = keeper-set-same (unaltered order stamp (length secret) cut cut) (λ x. true) (order .n) (λ x least most. unaltered-cut x (omega arith)) in
       (g .answers ∙ (λ i. answer 0 (all-usable i) (need i) (set i)), g .leaves)
