@@ -28,27 +28,33 @@ use Rattle.header.specs.Terms.{lawfulStamp, termsNumber}
 use Rattle.agree.specs.Agreement.{Polynomials, matches}
 use Rattle.agree.specs.ReachesLaws.{none-reaches}
 use Rattle.cut.specs.Cut.{shareWords}
+use Rattle.cut.specs.LetterField.{mod257-letters}
 use Rattle.join.specs.declared.Joined.{Joined}
 use Rattle.join.specs.Join.{answer, joinRefusal, Outcome, few, apart, wide, joined, JoinDone, judged}
 use Rattle.join.specs.OutcomeLaws.{outcome-scan}
 use Rattle.demands.specs.HeldTray.{heldTray, Held, length-held-tray, scan-held}
+use Rattle.demands.specs.Same.{join-same}
 
 -- lists of one word each
-abbrev each : List ℕ → List (List ℕ)
+abbrev pub each : List ℕ → List (List ℕ)
 each ws = map (λ w. w ∷ []) ws
 
 -- the share words of some keepers
-abbrev shares : List ℕ → ℕ → List ℕ → List ℕ → List (List ℕ)
+abbrev pub shares : List ℕ → ℕ → List ℕ → List ℕ → List (List ℕ)
 shares keepers t secret random = map (λ x. shareWords mod257 t x secret random) keepers
 
 -- "One byte, t=1, f=1, n=6"
-abbrev order : Order
+abbrev pub order : Order
 order = record { t = 1; f = 1; n = 6 }
 
--- what the join answers and leaves where keepers 1, 2 and so on hold letters of the words ws, and the others' slots are zeros; `join-same` says that
--- it answers nothing else
-abbrev Joins : ℕ → List ℕ → List ℕ → Joined → List ℕ → Type 0
-Joins stamp room ws result left = JoinDone mod257 order stamp 1 (heldTray order stamp 1 (each ws)) room result left
+-- what the join may answer and leave where keepers 1, 2 and so on hold letters of the words ws, and the others' slots are zeros
+abbrev pub Allowed : ℕ → List ℕ → List ℕ → Joined → List ℕ → Type 0
+Allowed stamp room ws result left = JoinDone mod257 order stamp 1 (heldTray order stamp 1 (each ws)) room result left
+
+-- it may answer and leave this, and nothing else
+pub record Joins (stamp : ℕ) (room ws : List ℕ) (result : Joined) (left : List ℕ) : Type 0 where
+  pub allowed : Allowed stamp room ws result left
+  pub only : (result′ : Joined) (left′ : List ℕ) → Allowed stamp room ws result′ left′ → (result′ ≡ result) × (left′ ≡ left)
 
 -- "secret 200, random word 100", any stamp, any room for one byte
 pub record WorkedNumbers (stamp : ℕ) (room : List ℕ) : Type 0 where
@@ -123,7 +129,8 @@ module _ (stamp : ℕ) (lawful : lawfulStamp stamp ≡ true) (room : List ℕ) (
         size = size-each ws;
         below = below-each ws (at-most-below 256 ws b);
       } in
-      judged (rw (lawful, eq-eqb _ _ (length-held-tray H), eq-eqb _ _ one)) (outcome-scan (scan-held H) D)
+      let this : Allowed stamp room ws _ _ = judged (rw (lawful, eq-eqb _ _ (length-held-tray H), eq-eqb _ _ one)) (outcome-scan (scan-held H) D) in
+      record { allowed = this; only = λ result′ left′ other. join-same mod257-letters other this }
 
   -- "Proved together: C1..C12."
   pub worked-numbers : WorkedNumbers stamp room
