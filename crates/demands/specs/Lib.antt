@@ -1,3 +1,5 @@
+-- demand 1: "a refused call changes no byte lent to it"
+pub mod Unchanged
 -- "joining accepts exactly when polynomials .. match at least max(m-f, t+f+1)"
 pub mod Accepted
 -- demand 2: "The join never gives a wrong secret. It gives the right one if .."
@@ -11,6 +13,8 @@ pub mod Same
 pub mod CallsSame
 -- C1..C12
 pub mod WorkedNumbers
+-- where the numbers stand in a letter
+pub mod Layout
 -- the demands speak of one cut: what a cut leaves that answers 0
 pub mod CutAnswers
 -- what these stand on

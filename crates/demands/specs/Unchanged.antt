@@ -1,0 +1,46 @@
+-- Demand 1: "a refused call changes no byte lent to it". One theorem for each promise of a call that is lent bytes to write; the other calls only
+-- read what they are lent.
+-- Assumes nothing.
+use Prim.Native.Nat.{ℕ}
+use mathlib.Core.Path.{_≡_, refl, _∙_}
+use mathlib.Core.Bool.{Bool}
+use mathlib.Core.List.{List}
+use lib.ListN.{length, drop}
+use lib.Seq.{drop-at}
+use borrow.Author.Tests.{ne-eqb}
+use Rattle.algebra.specs.Field.{Ops}
+use Rattle.header.specs.declared.order.Order.{Order}
+use Rattle.cut.specs.Cut.{CutDone}
+use Rattle.join.specs.declared.Joined.{Joined}
+use Rattle.join.specs.Join.{Outcome, few, apart, wide, joined, JoinDone, refused, judged}
+use Rattle.desk.specs.declared.Stored.{Stored}
+use Rattle.desk.specs.Desk.{storeNumber, storeLeaves, StoreDone}
+use Rattle.report_text.specs.Report.{Reported}
+
+-- the cut's tray
+pub cut-unchanged : {O : Ops} {order : Order} {stamp number : ℕ} {secret random tray left : List ℕ}
+    → CutDone O order stamp secret random tray number left → (number ≡ 0 → ⊥) → left ≡ tray
+cut-unchanged D wrong = D .leaves ∙ rw (ne-eqb _ 0 (λ e. wrong (D .answers ∙ e)))
+
+-- the join's room
+outcome-unchanged : {O : Ops} {t f n l : ℕ} {us : ℕ → Bool} {word : ℕ → ℕ → ℕ} {room left : List ℕ} {result : Joined}
+    → Outcome O t f n us word l room result left → (result .number ≡ 0 → ⊥) → left ≡ room
+outcome-unchanged (few h) wrong = refl
+outcome-unchanged (apart h none) wrong = refl
+outcome-unchanged (wide ps R e) wrong = refl
+outcome-unchanged (joined ps R e) wrong = absurd (wrong refl)
+
+pub join-unchanged : {O : Ops} {order : Order} {stamp l : ℕ} {tray room left : List ℕ} {result : Joined}
+    → JoinDone O order stamp l tray room result left → (result .number ≡ 0 → ⊥) → left ≡ room
+join-unchanged (refused h) wrong = refl
+join-unchanged (judged e D) wrong = outcome-unchanged D wrong
+
+-- the desk's slot
+pub store-unchanged : {order : Order} {keeper : ℕ} {held letter left : List ℕ} {result : Stored}
+    → StoreDone order keeper held letter result left → (result .number ≡ 0 → ⊥) → left ≡ held
+unfolding storeLeaves
+store-unchanged D wrong = D .leaves ∙ rw (ne-eqb _ 0 (λ e. wrong (D .number ∙ e)))
+
+-- The report always writes, a refusal too: its own rule is that nothing past what it writes is changed.
+pub report-unchanged : {input before after : List ℕ} {count : ℕ} → Reported input before count after → drop count after ≡ drop count before
+report-unchanged {before = before} R = rw (R .written, R .counted) (drop-at (R .bytes) (drop (length (R .bytes)) before) (length (R .bytes)) refl)
