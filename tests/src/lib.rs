@@ -6,13 +6,15 @@
 //! best loops we know for the cut and the join, for a fair comparison of speed.
 //!
 //! Beside the rules stand the means to hold the proved library to them: `peer` calls it, `cases` and
-//! `damage` make what it is called with, and `tally` counts the answers.
+//! `damage` make what it is called with, `document` reads what a page says of it, and `tally` counts
+//! the answers.
 
 pub mod block;
 pub mod cases;
 pub mod cut;
 pub mod damage;
 pub mod desk;
+pub mod document;
 pub mod fast;
 pub mod field;
 pub mod join;

@@ -1,0 +1,348 @@
+//! `docs/FORMAT.md` beside the library and the second program: the worked numbers are read from the
+//! page as it stands, and both must give them.
+
+use second::block::{self, Words, BLOCK, WORDS};
+use second::cut::cut;
+use second::damage::{exchange_slot, forge_word, lie, set_word, share, slot, word};
+use second::desk::{Desk, Stored};
+use second::document::{document, ends, fenced, number, numbers, optional, table};
+use second::join::{join, Joined};
+use second::letter::{Fault, Head, Letter};
+use second::order::{Order, LONGEST, SLOT};
+use second::peer::Peer;
+use second::pick::{pick, Picked};
+use second::report::report;
+
+/// What holds where the page says nothing else.
+const ORDER: Order = Order { t: 1, f: 1, n: 6 };
+const STAMP: u32 = 7;
+
+fn page() -> String {
+    document("FORMAT.md")
+}
+
+/// The library and the second program, asked the same. Each call gives what both answer.
+struct Both {
+    library: Peer,
+}
+
+impl Both {
+    fn start() -> Both {
+        Both { library: Peer::start() }
+    }
+
+    fn cut(&mut self, order: Order, stamp: u32, secret: &[u8], random: &[u16]) -> Vec<u8> {
+        let [mut tray, mut second] = [(); 2].map(|()| vec![99; order.tray()]);
+        assert_eq!(self.library.cut(order, stamp, secret, random, &mut tray), 0);
+        assert_eq!(cut(order, stamp, secret, random, &mut second), 0);
+        assert!(tray == second, "the two programs cut the same");
+        tray
+    }
+
+    /// One byte, under the page's order and stamp.
+    fn cut_byte(&mut self, secret: u8, random: u16) -> Vec<u8> {
+        self.cut(ORDER, STAMP, &[secret], &[random])
+    }
+
+    fn fault(&mut self, slot: &[u8]) -> Fault {
+        let [number, place, head @ ..] = self.library.read(slot);
+        assert_eq!(head, [0; 6], "a refusal has no other numbers");
+        assert_eq!(Letter::read(slot), Err(Fault { number, place }));
+        Fault { number, place }
+    }
+
+    /// The join of one byte, and the byte if it is written.
+    fn join(&mut self, tray: &[u8]) -> (Joined, Option<u32>) {
+        let [mut room, mut second] = [[0xaa], [0xaa]];
+        let joined = self.library.join(ORDER, STAMP, 1, tray, &mut room);
+        assert_eq!(join(ORDER, STAMP, 1, tray, &mut second), joined);
+        assert_eq!(second, room);
+        (joined, (room != [0xaa]).then_some(room[0].into()))
+    }
+
+    fn store(&mut self, desk: Desk, held: &mut [u8], letter: &[u8]) -> Stored {
+        let mut second = held.to_vec();
+        let stored = self.library.store(desk, held, letter);
+        assert_eq!(desk.store(&mut second, letter), stored);
+        assert!(second == held, "the two desks hold the same");
+        stored
+    }
+
+    fn fetch(&mut self, desk: Desk, held: &[u8]) -> u32 {
+        let number = self.library.fetch(desk, held);
+        assert_eq!(desk.fetch(held).err().unwrap_or(0), number);
+        number
+    }
+
+    fn pick(&mut self, order: Order, tray: &[u8]) -> Picked {
+        let picked = self.library.pick(order, tray);
+        assert_eq!(pick(order, tray), picked);
+        picked
+    }
+}
+
+#[test]
+fn the_fewest_keepers() {
+    let (page, mut both) = (page(), Both::start());
+    let rows = table(&page, "| t | f=0 | f=1 | f=2 | f=3 |");
+    assert_eq!(rows.len(), 7);
+    for row in rows {
+        for (f, cell) in (0..).zip(&row[1..]) {
+            let fewest = optional(cell);
+            for n in 1..=16 {
+                let order = Order::new(number(row[0]), f, n);
+                let refused = both.pick(order, &vec![0; order.tray()]).number == 1;
+                assert_eq!(refused, fewest.is_none_or(|fewest| n < fewest), "{order:?}");
+            }
+        }
+    }
+}
+
+#[test]
+fn words_and_their_bytes() {
+    let page = page();
+    let mut next = 0;
+    for row in table(&page, "| word | bytes | holds |") {
+        let (words, bytes) = (ends(row[0]), ends(row[1]));
+        assert_eq!(bytes, (2 * words.0, 2 * words.1 + 1));
+        assert_eq!(words.0, next);
+        next = words.1 + 1;
+    }
+    assert_eq!(next, WORDS);
+}
+
+#[test]
+fn how_many_blocks() {
+    let (page, mut both) = (page(), Both::start());
+    let rows = table(&page, "| L | blocks |");
+    let mut past = 1;
+    for row in rows {
+        let (least, most) = ends(row[0]);
+        assert_eq!(least, past, "the lengths follow on each other");
+        past = most + 1;
+        for length in [least, most] {
+            let tray = both.cut(ORDER, STAMP, &vec![1; length], &vec![1; length]);
+            let used = tray[..SLOT].chunks(BLOCK).take_while(|block| block[1] != 0);
+            assert_eq!(used.count(), number(row[1]) as usize);
+        }
+    }
+    assert_eq!(past, LONGEST + 1);
+}
+
+#[test]
+fn all_numbers_in_their_order() {
+    let page = page();
+    let rows = table(&page, "| number | answered exactly when | by |");
+    let found: Vec<u32> = rows.iter().map(|row| number(row[0])).collect();
+    assert_eq!(found, (0..18).collect::<Vec<_>>());
+}
+
+#[test]
+fn cuts() {
+    let (page, mut both) = (page(), Both::start());
+    let first = "| case | t | f | n | secret | random words | keepers | their share words |";
+    let rows = table(&page, first);
+    assert_eq!(rows.iter().map(|row| row[0]).collect::<Vec<_>>(), ["C1", "C9", "C10", "C11"]);
+    for row in rows {
+        let order = Order::new(number(row[1]), number(row[2]), number(row[3]));
+        let random: Vec<u16> = numbers(row[5]).into_iter().map(|word| word as u16).collect();
+        let mut tray = both.cut(order, STAMP, &[number(row[4]) as u8], &random);
+        let held = numbers(row[6]).into_iter().map(|keeper| share(slot(&mut tray, keeper), 0));
+        assert_eq!(held.collect::<Vec<_>>(), numbers(row[7]), "{}", row[0]);
+    }
+}
+
+/// What the page says below its cuts: for the secret 0, one random word alone gives keeper 2 its word.
+#[test]
+fn one_random_word_alone() {
+    let mut both = Both::start();
+    let known = share(slot(&mut both.cut_byte(200, 100), 2), 0);
+    let giving =
+        (0..=256).filter(|&random| share(slot(&mut both.cut_byte(0, random), 2), 0) == known);
+    assert_eq!(giving.collect::<Vec<_>>(), [200]);
+}
+
+/// The bytes that the page has in hexadecimal, and zeros to the slot's end.
+fn slot_of_the_page(page: &str) -> Vec<u8> {
+    let lines = fenced(page, "### A letter");
+    assert_eq!(lines.len(), 32);
+    let byte = |text| u8::from_str_radix(text, 16).expect("a byte in hexadecimal");
+    let mut slot = Vec::new();
+    for line in lines {
+        assert_eq!(line.len(), 47, "sixteen bytes a line");
+        slot.extend(line.split(' ').map(byte));
+    }
+    assert_eq!(slot.len(), BLOCK);
+    slot.resize(SLOT, 0);
+    slot
+}
+
+#[test]
+fn the_letter_in_hexadecimal() {
+    let (page, mut both) = (page(), Both::start());
+    let tray = both.cut_byte(200, 100);
+    assert!(slot_of_the_page(&page) == tray[..SLOT], "not the bytes that are cut for keeper 1");
+}
+
+#[test]
+fn the_letter_in_words() {
+    let page = page();
+    let rows = table(&page, "| words | hold |");
+    let [places, values] = [0, 1].map(|i| rows.iter().flat_map(move |row| numbers(row[i])));
+    assert_eq!(places.clone().collect::<Vec<_>>(), (0..=16).chain(254..=255).collect::<Vec<_>>());
+    let mut words: Words = [0; WORDS];
+    for (place, value) in places.zip(values) {
+        words[place as usize] = value;
+    }
+    assert!(block::bytes(&words) == slot_of_the_page(&page)[..BLOCK], "not the words of the bytes");
+}
+
+#[test]
+fn what_the_letter_reads_as() {
+    let (page, mut both) = (page(), Both::start());
+    let slot = slot_of_the_page(&page);
+    let rows = table(&page, "| number | place | t | f | n | keeper | stamp | length |");
+    let told: Vec<u32> = rows[0].iter().map(|cell| number(cell)).collect();
+    assert_eq!(both.library.read(&slot).to_vec(), told);
+    let head = Head {
+        order: Order::new(told[2], told[3], told[4]),
+        keeper: told[5],
+        stamp: told[6],
+        length: told[7],
+    };
+    assert_eq!(Letter::read(&slot).map(|letter| letter.head), Ok(head));
+}
+
+/// The tray of the page's longer letters.
+fn longer_tray(page: &str, both: &mut Both) -> Vec<u8> {
+    let rows = table(page, "| t | f | n | stamp | L |");
+    let [t, f, n, stamp, length] = [0, 1, 2, 3, 4].map(|i| number(rows[0][i]));
+    let secret: Vec<u8> = (0..length).map(|i| (i % 256) as u8).collect();
+    let random: Vec<u16> = (0..length * t).map(|j| (j % 257) as u16).collect();
+    both.cut(Order::new(t, f, n), stamp, &secret, &random)
+}
+
+#[test]
+fn the_longer_letters() {
+    let (page, mut both) = (page(), Both::start());
+    let mut tray = longer_tray(&page, &mut both);
+    let rows = table(&page, "| keeper | block | 5 | 6..11 | 12 | 16 | 17 | 253 | 254 | 255 |");
+    assert_eq!(rows.len(), 6);
+    for row in rows {
+        let slot = slot(&mut tray, number(row[0]));
+        let words = [5, 6, 7, 8, 9, 10, 11, 12, 16, 17, 253, 254, 255];
+        let held = words.map(|at| word(slot, number(row[1]) as usize, at));
+        let told: Vec<u32> = row[2..].iter().flat_map(|cell| numbers(cell)).collect();
+        assert_eq!(held.to_vec(), told);
+    }
+}
+
+#[test]
+fn the_check() {
+    let (page, mut both) = (page(), Both::start());
+    let rows = table(&page, "| case | words 0, 1 | words 254, 255 | number | place |");
+    let [case, front, check, number_given, place] = rows[0][..] else { unreachable!() };
+    assert_eq!(case, "C12");
+    let mut words: Words = [0; WORDS];
+    words[..2].copy_from_slice(&numbers(front));
+    words[254..].copy_from_slice(&numbers(check));
+    let mut slot = block::bytes(&words);
+    slot.resize(SLOT, 0);
+    let fault = Fault { number: number(number_given), place: number(place) };
+    assert_eq!(both.fault(&slot), fault);
+}
+
+#[test]
+fn letters_that_are_not_good() {
+    let (page, mut both) = (page(), Both::start());
+    let mut tray = longer_tray(&page, &mut both);
+    let good = slot(&mut tray, 7);
+    let rows = table(&page, "| block | word | made | check | number | place |");
+    assert_eq!(rows.len(), 14);
+    for row in rows {
+        let [block, word, made] = [0, 1, 2].map(|i| number(row[i]));
+        let mut slot = good.to_vec();
+        match row[3] {
+            "new" => forge_word(&mut slot, block as usize, word as usize, made),
+            "old" => set_word(&mut slot, block as usize, word as usize, made),
+            other => panic!("'{other}' is no check"),
+        }
+        let fault = Fault { number: number(row[4]), place: number(row[5]) };
+        assert_eq!(both.fault(&slot), fault, "{row:?}");
+    }
+}
+
+#[test]
+fn joins() {
+    let (page, mut both) = (page(), Both::start());
+    let full = both.cut_byte(200, 100);
+    let first = "| case | 1 | 2 | 3 | 4 | 5 | 6 | number | m | need | set | secret |";
+    let rows = table(&page, first);
+    let cases: Vec<&str> = rows.iter().map(|row| row[0]).collect();
+    assert_eq!(cases, ["C2", "C3", "C4", "C5", "C6", "C7", "C8"]);
+    for row in rows {
+        let mut tray = vec![0; ORDER.tray()];
+        for (keeper, cell) in (1..).zip(&row[1..7]) {
+            if let Some(word) = optional(cell) {
+                exchange_slot(&mut tray, &full, keeper);
+                lie(slot(&mut tray, keeper), 0, word);
+            }
+        }
+        let [number, usable, need, set] = [7, 8, 9, 10].map(|i| number(row[i]));
+        let joined = Joined { number, usable, need, set };
+        assert_eq!(both.join(&tray), (joined, optional(row[11])), "{}", row[0]);
+    }
+}
+
+#[test]
+fn a_desk() {
+    let (page, mut both) = (page(), Both::start());
+    let first = "| stamp | random word | letter of keeper | number | stamp held afterwards |";
+    let rows = table(&page, first);
+    assert_eq!(rows.len(), 7);
+    let desk = Desk { order: ORDER, keeper: 1 };
+    let mut held = vec![0; SLOT];
+    for row in rows {
+        let [stamp, random, keeper, number] = [0, 1, 2, 3].map(|i| number(row[i]));
+        let mut tray = both.cut(ORDER, stamp, &[200], &[random as u16]);
+        let stored = both.store(desk, &mut held, slot(&mut tray, keeper));
+        assert_eq!(stored, Stored { number, place: 0 }, "{row:?}");
+        let stamp_held = Letter::read(&held).ok().map(|letter| letter.head.stamp);
+        assert_eq!(stamp_held, optional(row[4]), "{row:?}");
+        assert_eq!(both.fetch(desk, &held), if stamp_held.is_some() { 0 } else { 17 });
+    }
+}
+
+#[test]
+fn picks() {
+    let (page, mut both) = (page(), Both::start());
+    let rows = table(&page, "| 1 | 2 | 3 | 4 | 5 | 6 | number | stamp | length |");
+    assert_eq!(rows.len(), 5);
+    for row in rows {
+        let mut tray = vec![0; ORDER.tray()];
+        for (keeper, cell) in (1..).zip(&row[..6]) {
+            let Some((stamp, length)) = cell.split_once('/') else {
+                assert_eq!(*cell, "-");
+                continue;
+            };
+            let length = number(length) as usize;
+            let cut = both.cut(ORDER, number(stamp), &vec![200; length], &vec![100; length]);
+            exchange_slot(&mut tray, &cut, keeper);
+        }
+        let [number, stamp, length] = [6, 7, 8].map(|i| number(row[i]));
+        assert_eq!(both.pick(ORDER, &tray), Picked { number, stamp, length }, "{row:?}");
+    }
+}
+
+/// The program `report` is held to the same lines by its own comparison.
+#[test]
+fn a_report() {
+    let page = page();
+    let mut tray = Both::start().cut_byte(200, 100);
+    lie(slot(&mut tray, 3), 0, 0);
+    slot(&mut tray, 6).fill(0);
+    let written = report(&[&[1, 1, 6], tray.as_slice()].concat());
+    let lines: String =
+        fenced(&page, "### A report").iter().map(|line| format!("{line}\n")).collect();
+    assert_eq!(String::from_utf8(written), Ok(lines));
+}
