@@ -1,5 +1,5 @@
-//! `docs/FORMAT.md` beside the library and the second program: the worked numbers are read from the
-//! page as it stands, and both must give them.
+//! `docs/FORMAT.md`, the page of this file, beside the library and the second program: its worked
+//! numbers are read as they stand there, and both must give them.
 
 use second::block::{self, Words, BLOCK, WORDS};
 use second::cut::cut;
@@ -258,7 +258,7 @@ fn letters_that_are_not_good() {
     let mut tray = longer_tray(&page, &mut both);
     let good = slot(&mut tray, 7);
     let rows = table(&page, "| block | word | made | check | number | place |");
-    assert_eq!(rows.len(), 14);
+    assert_eq!(rows.len(), 15);
     for row in rows {
         let [block, word, made] = [0, 1, 2].map(|i| number(row[i]));
         let mut slot = good.to_vec();

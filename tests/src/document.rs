@@ -1,7 +1,7 @@
 //! What a test reads out of one of the project's documents, to hold its numbers to the programs.
 
-/// The whole of a document, by its name in `docs/`. It is read when the test runs, so that an edited
-/// page is judged at once.
+/// The whole of a document, by its name in `docs/`. It is read when the test runs, so that it is judged
+/// as it stands.
 pub fn document(name: &str) -> String {
     let path = format!("{}/../docs/{name}", env!("CARGO_MANIFEST_DIR"));
     std::fs::read_to_string(&path).unwrap_or_else(|error| panic!("{path}: {error}"))
