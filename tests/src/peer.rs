@@ -3,9 +3,9 @@
 //! The library is compiled for x86-64 alone. A process lets the same tests run beside it on any
 //! machine that can run it at all, emulated or not, and a call that crashed would be seen as one.
 //!
-//! A request is the call's number, five numbers and the sizes of three parts, then the parts. The
-//! reply is eight numbers, then each part as the call left it, between guards. `peer.c` is the other
-//! end.
+//! A request is the call's number, whether empty parts are lent as NULL, five numbers and the sizes of
+//! three parts, then the parts. The reply is eight numbers, then each part as the call left it,
+//! between guards. `peer.c` is the other end.
 
 use std::io::{BufReader, Read, Write};
 use std::process::{Child, ChildStdin, ChildStdout, Command, Stdio};
@@ -38,6 +38,7 @@ pub struct Peer {
     process: Child,
     requests: Option<ChildStdin>,
     replies: BufReader<ChildStdout>,
+    null: bool,
 }
 
 /// What a call answers, and how it leaves what it was lent.
@@ -55,15 +56,22 @@ impl Peer {
             .expect("library/start is there");
         let requests = process.stdin.take();
         let replies = BufReader::new(process.stdout.take().expect("it was asked for"));
-        Peer { process, requests, replies }
+        Peer { process, requests, replies, null: false }
+    }
+
+    /// One that lends NULL for what is empty, as C programs do.
+    pub fn with_null() -> Peer {
+        let mut peer = Peer::start();
+        peer.null = true;
+        peer
     }
 
     fn call(&mut self, call: u32, numbers: &[u32], lent: &[&[u8]]) -> Reply {
-        let mut words = vec![call];
+        let mut words = vec![call, u32::from(self.null)];
         words.extend(numbers);
-        words.resize(1 + NUMBERS, 0);
+        words.resize(2 + NUMBERS, 0);
         words.extend(lent.iter().map(|part| part.len() as u32));
-        words.resize(1 + NUMBERS + PARTS, 0);
+        words.resize(2 + NUMBERS + PARTS, 0);
         let mut request: Vec<u8> = words.iter().flat_map(|word| word.to_le_bytes()).collect();
         request.extend(lent.concat());
         let requests = self.requests.as_mut().expect("open until the end");

@@ -1,0 +1,119 @@
+//! NULL where a part is empty: each call answers as the second program does, which knows no pointers.
+
+use second::cases::Tray;
+use second::cut::cut;
+use second::desk::Desk;
+use second::join::join;
+use second::order::{Order, SLOT};
+use second::peer::Peer;
+use second::pick::pick;
+use second::random::Random;
+use second::tally::Tally;
+
+const STAMP: u32 = 7;
+const LENGTH: usize = 3;
+
+/// The part, or nothing where part k is among the empty ones.
+fn lent<T>(part: &[T], empty: u32, k: u32) -> &[T] {
+    match empty >> k & 1 {
+        1 => &[],
+        _ => part,
+    }
+}
+
+/// Each lawful order's tray, and an order to tell with it: its own, one with a keeper too few, and one
+/// without keepers, whose tray is empty.
+fn told(random: &Random) -> Vec<(Order, Tray)> {
+    let mut told = Vec::new();
+    for order in Order::all() {
+        let tray = Tray::cut(order, STAMP, LENGTH, random);
+        for n in [order.n, order.t + 4 * order.f, 0] {
+            told.push((Order { n, ..order }, tray.clone()));
+        }
+    }
+    told
+}
+
+#[test]
+fn the_slot_of_a_read() {
+    let mut peer = Peer::with_null();
+    assert_eq!(peer.read(&[]), [4, 0, 0, 0, 0, 0, 0, 0]);
+}
+
+#[test]
+fn each_part_of_a_cut() {
+    let (random, mut peer, mut tally) = (&Random::new(121), Peer::with_null(), Tally::default());
+    for (order, tray) in told(random) {
+        let words = random.words(LENGTH * order.t as usize);
+        for (empty, stamp) in (0..8).flat_map(|empty| [(empty, 0), (empty, STAMP)]) {
+            let secret = lent(&tray.secret, empty, 0);
+            let words = lent(&words, empty, 1);
+            let mut expected = lent(&tray.bytes, empty, 2).to_vec();
+            let mut left = expected.clone();
+            let number = cut(order, stamp, secret, words, &mut expected);
+            let answered = peer.cut(order, stamp, secret, words, &mut left);
+            assert_eq!(answered, number, "{order:?}, stamp {stamp}, empty {empty:b}");
+            assert!(left == expected, "{order:?}, stamp {stamp}, empty {empty:b}");
+            tally.add(number);
+        }
+    }
+    tally.expect(7776, &[0, 1, 2, 3, 4]);
+}
+
+/// The length told is now and then the empty room's own.
+#[test]
+fn each_part_of_a_join() {
+    let (random, mut peer, mut tally) = (&Random::new(122), Peer::with_null(), Tally::default());
+    for (order, tray) in told(random) {
+        for (empty, stamp) in (0..4).flat_map(|empty| [(empty, 0), (empty, STAMP)]) {
+            let length = *random.choose(&[0, LENGTH as u32, LENGTH as u32, 953]);
+            let bytes = lent(&tray.bytes, empty, 0);
+            let mut expected = lent(&tray.secret, empty, 1).to_vec();
+            expected.fill(0xcc);
+            let mut left = expected.clone();
+            let joined = join(order, stamp, length, bytes, &mut expected);
+            let answered = peer.join(order, stamp, length, bytes, &mut left);
+            assert_eq!(answered, joined, "{order:?}, stamp {stamp}, {length}, empty {empty:b}");
+            assert!(left == expected, "{order:?}, stamp {stamp}, {length}, empty {empty:b}");
+            tally.add(joined.number);
+        }
+    }
+    tally.expect(3888, &[0, 1, 2, 3, 4]);
+}
+
+#[test]
+fn each_part_at_the_desk() {
+    let (random, mut peer) = (&Random::new(123), Peer::with_null());
+    let (mut stored, mut fetched) = (Tally::default(), Tally::default());
+    for (order, tray) in told(random) {
+        for (empty, keeper) in (0..4).flat_map(|empty| [(empty, 0), (empty, 1)]) {
+            let desk = Desk { order, keeper };
+            let mut expected = lent(&vec![0; SLOT], empty, 0).to_vec();
+            let mut left = expected.clone();
+            let letter = lent(&tray.bytes[..SLOT], empty, 1);
+            let answer = desk.store(&mut expected, letter);
+            assert_eq!(peer.store(desk, &mut left, letter), answer, "{desk:?}, empty {empty:b}");
+            assert!(left == expected, "{desk:?}, empty {empty:b}");
+            stored.add(answer.number);
+            let number = desk.fetch(&left).err().unwrap_or(0);
+            assert_eq!(peer.fetch(desk, &left), number, "{desk:?}, empty {empty:b}");
+            fetched.add(number);
+        }
+    }
+    stored.expect(3888, &[0, 1, 4]);
+    fetched.expect(3888, &[0, 1, 4, 17]);
+}
+
+#[test]
+fn the_tray_of_a_pick() {
+    let (random, mut peer, mut tally) = (&Random::new(124), Peer::with_null(), Tally::default());
+    for (order, tray) in told(random) {
+        for empty in 0..2 {
+            let bytes = lent(&tray.bytes, empty, 0);
+            let picked = pick(order, bytes);
+            assert_eq!(peer.pick(order, bytes), picked, "{order:?}, empty {empty}");
+            tally.add(picked.number);
+        }
+    }
+    tally.expect(972, &[0, 1, 4]);
+}
