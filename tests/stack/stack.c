@@ -1,0 +1,248 @@
+/*
+ * Measures the stack that each call of the library takes. A call is given painted memory for its
+ * stack, and the lowest byte that is no longer paint tells how deep it went; the frame of the small
+ * function here that makes the call is counted too. Each is measured as the first call of a process,
+ * in which the loader may still have to look up memcpy and memset, and as a later one.
+ */
+#include "csalgodes.h"
+
+/* Declared here, since where the kit's compiler builds this no header of the C library is at hand. */
+int printf(const char *format, ...);
+int snprintf(char *to, size_t size, const char *format, ...);
+int fflush(void *stream);
+int fork(void);
+int waitpid(int child, int *status, int options);
+_Noreturn void _exit(int status);
+void *mmap(void *at, size_t size, int protection, int flags, int file, long offset);
+int mprotect(void *at, size_t size, int protection);
+
+enum { SLOT = 2048, N = 16, TRAY = N * SLOT, MOST_T = 7, LONGEST = 952 };
+enum { KEEPER = 1, STAMP = 2, TRIES = 100 };
+
+/* The header's limit, and room to see by how much a call passes it. */
+enum { LIMIT = 64 * 1024, GROUND = 4 * LIMIT };
+
+/* Of x86-64 Linux. */
+enum { NO_ACCESS = 0, READ_AND_WRITE = 3, SHARED_AND_OF_NO_FILE = 0x21 };
+#define NO_MEMORY ((void *)-1)
+
+/*
+ * A call and what it is lent, which comes of two cuts with n=16 and 952 bytes, the most there can be. A
+ * set of keepers has keeper x as bit x-1.
+ */
+typedef struct {
+    const char *call, *input;
+    uint32_t (*run)(void);
+    uint32_t t, f;
+    uint32_t age;    /* by so much is the other cut's stamp the smaller */
+    uint32_t same;   /* so many words are the same in both cuts */
+    uint32_t absent; /* keepers whose slots hold nothing */
+    uint32_t others; /* keepers whose slots hold the other cut's letters */
+    uint32_t number; /* the answer that is to be given */
+} measurement;
+
+/* Bytes deep, 0 where the call was not made or crashed. */
+typedef struct {
+    uint32_t number;
+    size_t first, later;
+} outcome;
+
+static measurement now;
+
+/* What one process leaves for the next. A call that goes past the ground crashes at the guard. */
+static struct {
+    uint8_t guard[LIMIT], ground[GROUND];
+    uint8_t tray[TRAY], other[TRAY], secret[LONGEST], room[LONGEST];
+    uint16_t random[MOST_T * LONGEST];
+    uint8_t paint;
+    uint32_t number;
+} *common;
+
+static uint32_t draw(uint32_t below) {
+    static uint64_t state = 1;
+    state = state * 6364136223846793005u + 1442695040888963407u;
+    return (uint32_t)(state >> 33) % below;
+}
+
+static uint32_t cut(uint8_t *tray, uint32_t stamp) {
+    return cs_cut(now.t, now.f, N, stamp, common->secret, LONGEST, common->random,
+                  now.t * LONGEST, tray, TRAY);
+}
+
+static uint32_t run_cut(void) { return cut(common->tray, STAMP); }
+
+static uint32_t run_read(void) { return cs_read(common->tray, SLOT).number; }
+
+static uint32_t run_store(void) {
+    return cs_store(now.t, now.f, N, KEEPER, common->other, SLOT, common->tray, SLOT).number;
+}
+
+static uint32_t run_fetch(void) { return cs_fetch(now.t, now.f, N, KEEPER, common->tray, SLOT); }
+
+static uint32_t run_pick(void) { return cs_pick(now.t, now.f, N, common->tray, TRAY).number; }
+
+static uint32_t run_join(void) {
+    cs_join_result r = cs_join(now.t, now.f, N, STAMP, LONGEST, common->tray, TRAY, common->room,
+                               LONGEST);
+    return r.number;
+}
+
+/* The library's code is for x86-64 wherever it runs, so this can be. */
+static void run(void) {
+    uint32_t number;
+    __asm__ volatile("movq %%rsp, %%rbx\n\t"
+                     "movq %[top], %%rsp\n\t"
+                     "callq *%[call]\n\t"
+                     "movq %%rbx, %%rsp"
+                     : "=&a"(number)
+                     : [top] "r"(common->ground + GROUND), [call] "r"(now.run)
+                     : "rbx", "rcx", "rdx", "rsi", "rdi", "r8", "r9", "r10", "r11", "xmm0", "xmm1",
+                       "xmm2", "xmm3", "xmm4", "xmm5", "xmm6", "xmm7", "xmm8", "xmm9", "xmm10",
+                       "xmm11", "xmm12", "xmm13", "xmm14", "xmm15", "cc", "memory");
+    common->number = number;
+}
+
+static void draw_random(uint32_t from) {
+    for (uint32_t i = from; i < now.t * LONGEST; i++) common->random[i] = (uint16_t)draw(257);
+}
+
+static void lay_slot(uint32_t k) {
+    uint8_t *slot = common->tray + k * SLOT;
+    const uint8_t *other = common->other + k * SLOT;
+    for (size_t i = 0; i < SLOT; i++) {
+        if (now.others >> k & 1) slot[i] = other[i];
+        if (now.absent >> k & 1) slot[i] = 0;
+    }
+}
+
+static void lay(void) {
+    draw_random(0);
+    if (cut(common->tray, STAMP) != 0) _exit(1);
+    draw_random(now.t * now.same);
+    if (cut(common->other, STAMP - now.age) != 0) _exit(1);
+    for (uint32_t k = 0; k < N; k++) lay_slot(k);
+    for (size_t i = 0; i < GROUND; i++) common->ground[i] = common->paint;
+}
+
+static void lay_and_run(void) {
+    lay();
+    run();
+}
+
+/* Whether a process of its own did it, and neither gave up nor crashed. */
+static int done_apart(void (*task)(void)) {
+    int status, child = fork();
+    if (child == 0) {
+        task();
+        _exit(0);
+    }
+    return child > 0 && waitpid(child, &status, 0) == child && status == 0;
+}
+
+static size_t touched(void) {
+    size_t left = 0;
+    while (left < GROUND && common->ground[left] == common->paint) left++;
+    return GROUND - left;
+}
+
+static outcome measure_under(uint8_t paint) {
+    outcome o = {0, 0, 0};
+    common->paint = paint;
+    if (done_apart(lay) && done_apart(run)) o.first = touched();
+    if (done_apart(lay_and_run)) o.later = touched();
+    o.number = common->number;
+    return o;
+}
+
+static size_t larger(size_t one, size_t other) { return one > other ? one : other; }
+
+/* A byte that the call sets to the one paint shows under the other. */
+static outcome measure(const measurement *m) {
+    now = *m;
+    outcome one = measure_under(0xa5), other = measure_under(0x5a);
+    if (!one.first || !one.later || !other.first || !other.later) return (outcome){0, 0, 0};
+    return (outcome){one.number, larger(one.first, other.first), larger(one.later, other.later)};
+}
+
+static int within_limit(outcome o) { return o.first > 0 && larger(o.first, o.later) < LIMIT; }
+
+/* Whether all is as it should be. */
+static int tell(const measurement *m, outcome o) {
+    printf("%-5s  %-58s  %6zu  %6zu\n", m->call, m->input, o.first, o.later);
+    if (o.first == 0) printf("^ could not be made, or crashed\n");
+    else if (!within_limit(o)) printf("^ takes %d bytes or more\n", LIMIT);
+    else if (o.number != m->number) printf("^ answered %u and not %u\n", o.number, m->number);
+    else return 1;
+    return 0;
+}
+
+static const measurement chosen[] = {
+    {"read", "a letter of four blocks", run_read, .t = 7, .f = 2},
+    {"cut", "t=7 f=2", run_cut, .t = 7, .f = 2},
+    {"store", "a newer letter", run_store, .t = 7, .f = 2, .age = 1},
+    {"store", "the same stamp, another word", run_store, .t = 7, .f = 2, .same = 951, .number = 15},
+    {"fetch", "a letter of four blocks", run_fetch, .t = 7, .f = 2},
+    {"pick", "t=7 f=2, one group", run_pick, .t = 7, .f = 2},
+    {"pick", "t=3 f=2, two groups", run_pick, .t = 3, .f = 2, .age = 1, .others = 0x5555},
+    {"join", "t=7 f=2, nobody lies", run_join, .t = 7, .f = 2},
+    {"join", "t=3 f=3, 3 lie in the last word", run_join, .t = 3, .f = 3, .same = 951, .others = 7},
+    {"join", "t=7 f=2, 3 lie", run_join, .t = 7, .f = 2, .others = 0x0049, .number = 7},
+    {"join", "t=3 f=3, 4 lie", run_join, .t = 3, .f = 3, .others = 0x000f, .number = 7},
+};
+
+/* The search goes over all keepers, and goes far where the first are absent. */
+static measurement drawn_join(void) {
+    measurement m = {"join", "", run_join, .t = 1 + draw(MOST_T)};
+    uint32_t most_f = (N - 1 - m.t) / 4;
+    m.f = draw((m.t < most_f ? m.t : most_f) + 1);
+    m.absent = (1u << draw(N - m.t - m.f)) - 1;
+    m.others = draw(1u << N) & draw(1u << N) & ~m.absent;
+    return m;
+}
+
+static uint32_t size_of(uint32_t set) {
+    uint32_t size = 0;
+    for (; set != 0; set &= set - 1) size++;
+    return size;
+}
+
+static int tell_drawn(measurement m, outcome o) {
+    char input[100];
+    snprintf(input, sizeof input, "t=%u f=%u, the first %u absent, %u lie; deepest of %d drawn",
+             m.t, m.f, size_of(m.absent), size_of(m.others), TRIES);
+    m.input = input;
+    m.number = o.number; /* any will do */
+    return tell(&m, o);
+}
+
+/* Only the deepest is told, or the first that is not as it should be. */
+static int measure_drawn(void) {
+    measurement deepest = drawn_join();
+    outcome most = measure(&deepest);
+    for (int i = 1; i < TRIES && within_limit(most); i++) {
+        measurement m = drawn_join();
+        outcome o = measure(&m);
+        if (!within_limit(o) || o.later > most.later) deepest = m, most = o;
+    }
+    return tell_drawn(deepest, most);
+}
+
+static int measure_chosen(void) {
+    int good = 1;
+    for (size_t i = 0; i < sizeof chosen / sizeof *chosen; i++) {
+        good &= tell(&chosen[i], measure(&chosen[i]));
+    }
+    return good;
+}
+
+int main(void) {
+    common = mmap(NULL, sizeof *common, READ_AND_WRITE, SHARED_AND_OF_NO_FILE, -1, 0);
+    if (common == NO_MEMORY || mprotect(common->guard, LIMIT, NO_ACCESS) != 0) {
+        printf("there is no memory to measure in\n");
+        return 1;
+    }
+    printf("bytes of stack, in the first call of a process and in a later one; the limit is %d\n",
+           LIMIT);
+    int good = measure_chosen() & measure_drawn();
+    return fflush(NULL) == 0 && good ? 0 : 1;
+}
