@@ -17,6 +17,7 @@ module _ (O : Ops) where
   infixl 70 _⊗_
   open Ops O using (q, add as _⊕_, sub as _⊖_, mul as _⊗_, inv)
 
+  -- the laws of a field: results lie below q, sums and products are as one expects, and every number but 0 has an inverse
   pub record IsField : Type 0 where
     pub minus-one : ℕ
     pub one-lt : 1 < q

@@ -19,10 +19,12 @@ weightedCheck ws = total (λ i. getD ws i 0 * 3 ^ i) 254 % 257
 unfoldable pub sealed : List ℕ → List ℕ
 sealed ws = ws ++ (plainCheck ws ∷ weightedCheck ws ∷ [])
 
+-- every word is at most so large
 unfoldable pub allAtMost : ℕ → List ℕ → Bool
 allAtMost top [] = true
 allAtMost top (w ∷ ws) = leb w top && allAtMost top ws
 
+-- words 254 and 255 are what they must be
 unfoldable pub checked : List ℕ → Bool
 checked ws = eqb (getD ws 254 0) (plainCheck ws) && eqb (getD ws 255 0) (weightedCheck ws)
 

@@ -19,5 +19,6 @@ numbers number place h = record {
   length = h .length;
 }
 
+-- of a good letter and of a faulty one
 abbrev pub readResult : Reading → ReadResult
 readResult r = numbers (numberOf r) (placeOf r) (readHead r)

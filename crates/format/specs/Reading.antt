@@ -59,13 +59,16 @@ abbrev pub numberOf : Reading → ℕ
 numberOf (Good h) = 0
 numberOf (Bad number place) = number
 
+-- "A good letter answers 0 .. and place 0"; else the place of the fault
 abbrev pub placeOf : Reading → ℕ
 placeOf (Good h) = 0
 placeOf (Bad number place) = place
 
+-- "Unless stated, every other number in a refusal's result is 0."
 abbrev pub noHead : Head
 noHead = record { order = record { t = 0; f = 0; n = 0 }; keeper = 0; stamp = 0; length = 0 }
 
+-- "its header's numbers"; zeros where the letter is not good
 abbrev pub readHead : Reading → Head
 readHead (Good h) = h
 readHead (Bad number place) = noHead

@@ -10,9 +10,11 @@ use Rattle.header.specs.declared.head.Head.{Head}
 use Rattle.header.specs.Order.{lawfulOrder, lawfulKeeper, sameOrder}
 use Rattle.header.specs.Terms.{lawfulStamp, lawfulLength}
 
+-- what number 12 asks of a head: not "an unlawful order, a keeper outside 1..n, stamp 0, L out of range"
 unfoldable pub lawfulHead : Head → Bool
 lawfulHead h = lawfulOrder (h .order) && (lawfulKeeper (h .order) (h .keeper) && (lawfulStamp (h .stamp) && lawfulLength (h .length)))
 
+-- the same order, keeper, stamp and length
 unfoldable pub sameHead : Head → Head → Bool
 sameHead a b = sameOrder (a .order) (b .order) && (eqb (a .keeper) (b .keeper) && (eqb (a .stamp) (b .stamp) && eqb (a .length) (b .length)))
 
@@ -35,11 +37,14 @@ lowByte ws i = getD ws i 0 % 256
 abbrev pub orderOf : List ℕ → Order
 orderOf ws = record { t = getD ws 2 0; f = getD ws 3 0; n = getD ws 4 0 }
 
+-- words 6..9: "stamp, one byte a word, high first"
 abbrev pub stampOf : List ℕ → ℕ
 stampOf ws = lowByte ws 6 * 16777216 + lowByte ws 7 * 65536 + lowByte ws 8 * 256 + lowByte ws 9
 
+-- words 10, 11: "L, one byte a word, high first"
 abbrev pub lengthOf : List ℕ → ℕ
 lengthOf ws = lowByte ws 10 * 256 + lowByte ws 11
 
+-- all of it; the keeper is word 5
 unfoldable pub headOf : List ℕ → Head
 headOf ws = record { order = orderOf ws; keeper = getD ws 5 0; stamp = stampOf ws; length = lengthOf ws }

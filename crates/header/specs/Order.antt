@@ -13,5 +13,6 @@ lawfulOrder o = leb 1 (o .t) && (leb (o .t) 7 && (leb (o .f) (o .t) && (leb (o .
 unfoldable pub lawfulKeeper : Order → ℕ → Bool
 lawfulKeeper o keeper = leb 1 keeper && leb keeper (o .n)
 
+-- the same t, f and n
 unfoldable pub sameOrder : Order → Order → Bool
 sameOrder a b = eqb (a .t) (b .t) && (eqb (a .f) (b .f) && eqb (a .n) (b .n))

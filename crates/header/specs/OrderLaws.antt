@@ -22,6 +22,7 @@ pub facts-lawful-order : (o : Order) → OrderFacts o → lawfulOrder o ≡ true
 unfolding lawfulOrder
 facts-lawful-order o h = simp (passes, h .t-least, h .t-most, h .f-most, h .n-least, h .n-most)
 
+-- "Keepers are numbered 1..n."
 pub record KeeperFacts (o : Order) (keeper : ℕ) : Type 0 where
   pub keeper-least : 1 ≤ keeper
   pub keeper-most : keeper ≤ o .n

@@ -8,6 +8,7 @@ use mathlib.Core.List.{List, [], _∷_, _++_}
 use lib.Dec.{ltb}
 use Rattle.lists.specs.Listed.{listed}
 
+-- the bytes of a text of plain characters, one for each
 unfoldable pub text : String → List ℕ
 text s = listed (λ i. code (charAt s i)) (len s)
 
@@ -16,5 +17,6 @@ unfoldable pub digits : ℕ → ℕ → List ℕ
 digits zero n = []
 digits (suc more) n = cond (ltb n 10) ((48 + n) ∷ []) (digits more (n / 10) ++ ((48 + n % 10) ∷ []))
 
+-- a number as it is printed
 abbrev pub decimal : ℕ → List ℕ
 decimal n = digits 20 n

@@ -9,10 +9,12 @@ use native.Mathlib.Omega.{arith}
 use lib.ListN.{length}
 use Rattle.lists.specs.Member.{In}
 
+-- 1 for a test that passes, 0 for one that fails
 abbrev pub bit : Bool → ℕ
 bit true = 1
 bit false = 0
 
+-- how many of a list pass
 unfoldable pub count : (ℕ → Bool) → List ℕ → ℕ
 count f [] = 0
 count f (x ∷ xs) = bit (f x) + count f xs

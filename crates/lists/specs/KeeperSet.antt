@@ -10,5 +10,6 @@ unfoldable pub keeperSet : (ℕ → Bool) → ℕ → ℕ
 keeperSet test zero = 0
 keeperSet test (suc k) = bit (test (suc k)) * 2 ^ k + keeperSet test k
 
+-- keeper x is in a set: "bit x-1" is 1
 abbrev pub member : ℕ → ℕ → Bool
 member set x = eqb (set / 2 ^ (x - 1) % 2) 1

@@ -30,6 +30,7 @@ NotAfter s k stamp l = (s < stamp) ⊎ ((s ≡ stamp) × (k ≤ l))
 unfoldable pub pickRefusal : Order → List ℕ → ℕ
 pickRefusal order tray = cond (lawfulOrder order) (cond (eqb (length tray) (2048 * order .n)) 0 4) 1
 
+-- the number, and the stamp and length of the group
 abbrev pub picked : ℕ → ℕ → ℕ → Picked
 picked number stamp l = record { number = number; stamp = stamp; length = l }
 

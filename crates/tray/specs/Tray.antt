@@ -19,6 +19,7 @@ slotOf tray x = take 2048 (drop (2048 * (x - 1)) tray)
 abbrev pub headFor : Order → ℕ → ℕ → ℕ → Head
 headFor order stamp l x = record { order = order; keeper = x; stamp = stamp; length = l }
 
+-- good, with just this head
 abbrev pub readsAs : Reading → Head → Bool
 readsAs (Good h) told = sameHead h told
 readsAs (Bad number place) told = false
