@@ -6,13 +6,11 @@ use mathlib.Core.Bool.{true}
 use mathlib.Core.List.{List}
 use mathlib.Core.Logic.{_↔_}
 use native.Mathlib.Omega.{arith}
-use Rattle.lists.specs.Count.{count}
-use Rattle.lists.specs.From.{from}
 use Rattle.lists.specs.KeeperSet.{keeperSet}
 use Rattle.algebra.specs.Field.{Ops}
 use Rattle.block.specs.Check.{allAtMost}
 use Rattle.header.specs.declared.order.Order.{Order}
-use Rattle.tray.specs.Tray.{usable, wordOf}
+use Rattle.tray.specs.Tray.{usable, usableMany, wordOf}
 use Rattle.agree.specs.Agreement.{agreeing, needed, Reaches, constants}
 use Rattle.cut.specs.LetterField.{LetterField, keepers-apart}
 use Rattle.join.specs.declared.Joined.{Joined}
@@ -27,7 +25,7 @@ pub record SecretAgreed (O : Ops) (order : Order) (stamp l : ℕ) (tray : List �
 
 -- the join gives what the polynomials ps say: number 0, m, need, the keepers that match, and their constants in the room
 pub record Given (O : Ops) (order : Order) (stamp l : ℕ) (tray : List ℕ) (ps : List (List ℕ)) (result : Joined) (left : List ℕ) : Type 0 where
-  pub answers : result ≡ answer 0 (count (usable order stamp l tray) (from 1 (order .n))) (needed (order .t) (order .f) (order .n) (usable order stamp l tray))
+  pub answers : result ≡ answer 0 (usableMany order stamp l tray) (needed (order .t) (order .f) (order .n) (usable order stamp l tray))
       (keeperSet (agreeing O (usable order stamp l tray) (wordOf tray l) l ps) (order .n))
   pub leaves : left ≡ constants ps
 

@@ -12,7 +12,7 @@ use Rattle.lists.specs.Count.{count, count-not}
 use Rattle.lists.specs.From.{from}
 use Rattle.lists.specs.SameBytes.{sameBytes}
 use Rattle.header.specs.declared.order.Order.{Order}
-use Rattle.tray.specs.Tray.{slotOf, usable}
+use Rattle.tray.specs.Tray.{slotOf, usable, usableMany}
 
 -- keeper x's slot is usable, and is the cut's
 abbrev pub unaltered : Order → ℕ → ℕ → List ℕ → List ℕ → ℕ → Bool
@@ -27,10 +27,7 @@ pub record AtMostAltered (order : Order) (stamp l : ℕ) (cut tray : List ℕ) :
   pub bytes : Below 256 tray
   pub few : count (altered order stamp l cut tray) (from 1 (order .n)) ≤ order .f
 
--- m, and how many of them are unaltered
-abbrev pub usableMany : Order → ℕ → ℕ → List ℕ → ℕ
-usableMany order stamp l tray = count (usable order stamp l tray) (from 1 (order .n))
-
+-- how many of the usable slots are unaltered
 abbrev pub unalteredMany : Order → ℕ → ℕ → List ℕ → List ℕ → ℕ
 unalteredMany order stamp l cut tray = count (unaltered order stamp l cut tray) (from 1 (order .n))
 

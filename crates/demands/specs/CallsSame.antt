@@ -8,34 +8,37 @@ use Rattle.algebra.specs.Field.{Ops}
 use Rattle.header.specs.declared.order.Order.{Order}
 use Rattle.format.specs.Reading.{readOf}
 use Rattle.cut.specs.LetterField.{LetterField}
+use Rattle.join.specs.Join.{JoinDone}
+use Rattle.desk.specs.Desk.{StoreDone}
+use Rattle.pick.specs.Pick.{PickDone}
 use Rattle.exports.specs.declared.joining.JoinResult.{JoinResult}
 use Rattle.exports.specs.declared.keeping.StoreResult.{StoreResult}
 use Rattle.exports.specs.declared.picking.PickResult.{PickResult}
 use Rattle.exports.specs.declared.reading.ReadResult.{ReadResult}
-use Rattle.exports.specs.Join.{joinedAs, JoinAnswered}
-use Rattle.exports.specs.Pick.{pickedAs, PickAnswered}
+use Rattle.exports.specs.Join.{joinedAs}
+use Rattle.exports.specs.Pick.{pickedAs}
 use Rattle.exports.specs.Read.{readResult}
-use Rattle.exports.specs.Store.{storedAs, StoreAnswered}
+use Rattle.exports.specs.Store.{storedAs}
 use Rattle.demands.specs.Same.{join-same, store-same, pick-same}
 
 pub cs-read-same : (slot : List ℕ) {result result′ : ReadResult} → result ≡ readResult (readOf slot) → result′ ≡ readResult (readOf slot) → result ≡ result′
 cs-read-same slot e e′ = e ∙ sym e′
 
 pub cs-join-same : {O : Ops} → LetterField O → {order : Order} {stamp l : ℕ} {tray room left left′ : List ℕ} {result result′ : JoinResult}
-    → JoinAnswered O order stamp l tray room result left → JoinAnswered O order stamp l tray room result′ left′ → (result ≡ result′) × (left ≡ left′)
+    → JoinDone O order stamp l tray room (joinedAs result) left → JoinDone O order stamp l tray room (joinedAs result′) left′ → (result ≡ result′) × (left ≡ left′)
 cs-join-same F {result = result} {result′} D D′ =
     let one = join-same F D D′ in
     let same : joinedAs result ≡ joinedAs result′ = one .0 in
     (λ i. record { number = same i .number; usable = same i .usable; need = same i .need; set = same i .set }, one .1)
 
 pub cs-store-same : {order : Order} {keeper : ℕ} {held letter left left′ : List ℕ} {result result′ : StoreResult}
-    → StoreAnswered order keeper held letter result left → StoreAnswered order keeper held letter result′ left′ → (result ≡ result′) × (left ≡ left′)
+    → StoreDone order keeper held letter (storedAs result) left → StoreDone order keeper held letter (storedAs result′) left′ → (result ≡ result′) × (left ≡ left′)
 cs-store-same {result = result} {result′} D D′ =
     let one = store-same D D′ in
     let same : storedAs result ≡ storedAs result′ = one .0 in
     (λ i. record { number = same i .number; place = same i .place }, one .1)
 
-pub cs-pick-same : (order : Order) (tray : List ℕ) (a b : PickResult) → PickAnswered order tray a → PickAnswered order tray b → a ≡ b
+pub cs-pick-same : (order : Order) (tray : List ℕ) (a b : PickResult) → PickDone order tray (pickedAs a) → PickDone order tray (pickedAs b) → a ≡ b
 cs-pick-same order tray a b D D′ =
     let same : pickedAs a ≡ pickedAs b = pick-same order tray (pickedAs a) (pickedAs b) D D′ in
     λ i. record { number = same i .number; stamp = same i .stamp; length = same i .length }

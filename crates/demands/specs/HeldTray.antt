@@ -26,9 +26,11 @@ use Rattle.tray.specs.Tray.{headFor, slotOf, usable, wordOf}
 use Rattle.agree.specs.ScanLaws.{SameScan}
 use Rattle.tray.specs.UsableLaws.{reads-usable}
 
+-- keeper k+1's slot: the letter of its row, or zeros where there is none
 unfoldable pub heldSlot : Order → ℕ → ℕ → List (List ℕ) → ℕ → List ℕ
 heldSlot order stamp l rows k = cond (ltb k (length rows)) (letterBytes (headFor order stamp l (suc k)) (getD rows k [])) zeroSlot
 
+-- the slots of keepers 1..n
 unfoldable pub heldTray : Order → ℕ → ℕ → List (List ℕ) → List ℕ
 heldTray order stamp l rows = pieces (heldSlot order stamp l rows) (order .n)
 

@@ -19,7 +19,7 @@ use Rattle.field.specs.Modulo.{mod257}
 use Rattle.block.specs.AtMostLaws.{below-at-most}
 use Rattle.header.specs.declared.order.Order.{Order}
 use Rattle.header.specs.OrderLaws.{KeeperFacts}
-use Rattle.tray.specs.Tray.{slotOf, usable, wordOf}
+use Rattle.tray.specs.Tray.{slotOf, usable, usableMany, wordOf}
 use Rattle.agree.specs.Agreement.{matches, agreeing, needed}
 use Rattle.agree.specs.ReachesLaws.{agreeing-same}
 use Rattle.cut.specs.Cut.{cutTray}
@@ -28,7 +28,7 @@ use Rattle.cut.specs.OneCut.{OneCut}
 use Rattle.join.specs.declared.Joined.{Joined}
 use Rattle.join.specs.Join.{answer, JoinDone}
 use Rattle.demands.specs.Accepted.{Given, zero-agreed, agreed-given}
-use Rattle.demands.specs.Altered.{unaltered, usableMany, unalteredMany, EnoughLeft, AtMostAltered, count-usable}
+use Rattle.demands.specs.Altered.{unaltered, unalteredMany, EnoughLeft, AtMostAltered, count-usable}
 use Rattle.demands.specs.JoinAnswers.{cut-not-refused}
 use Rattle.demands.specs.CutPolynomials.{cutPolynomials, constants-cut, polynomials-cut, slot-matches, matches-slot}
 

@@ -16,7 +16,7 @@ use Rattle.lists.specs.SameBytes.{same-bytes-self}
 use Rattle.algebra.specs.Field.{Ops}
 use Rattle.header.specs.declared.order.Order.{Order}
 use Rattle.header.specs.OrderLaws.{KeeperFacts, lawful-order-facts}
-use Rattle.tray.specs.Tray.{slotOf, usable}
+use Rattle.tray.specs.Tray.{slotOf, usable, usableMany}
 use Rattle.tray.specs.UsableLaws.{reads-usable}
 use Rattle.agree.specs.Agreement.{needed}
 use Rattle.cut.specs.Cut.{cutTray}
@@ -24,7 +24,7 @@ use Rattle.cut.specs.LetterField.{LetterField}
 use Rattle.cut.specs.OneCut.{OneCut, length-cut-tray, below-cut-tray, read-cut}
 use Rattle.join.specs.declared.Joined.{Joined}
 use Rattle.join.specs.Join.{answer, JoinDone}
-use Rattle.demands.specs.Altered.{unaltered, AtMostAltered, usableMany, count-usable}
+use Rattle.demands.specs.Altered.{unaltered, AtMostAltered, count-usable}
 use Rattle.demands.specs.Recovery.{gives-right}
 
 count-all : (xs : List ℕ) → count (λ x. true) xs ≡ length xs

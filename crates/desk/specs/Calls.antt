@@ -21,6 +21,7 @@ unfoldable pub deskAfter : Order → ℕ → List ℕ → List (List ℕ) → Li
 deskAfter order keeper held [] = held
 deskAfter order keeper held (offer ∷ offers) = deskAfter order keeper (storeLeaves order keeper held offer) offers
 
+-- a claim of every slot of a list
 abbrev pub Each : (List ℕ → Type 0) → List (List ℕ) → Type 0
 Each P [] = Unit {0}
 Each P (slot ∷ slots) = P slot × Each P slots

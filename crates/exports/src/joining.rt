@@ -1,7 +1,8 @@
 // cs_join: the secret of a tray, or why not.
 ghost use Rattle.field.specs.Modulo.{mod257};
+ghost use Rattle.join.specs.Join.{JoinDone};
 ghost use Rattle.exports.specs.Told.{orderTold};
-ghost use Rattle.exports.specs.Join.{JoinAnswered};
+ghost use Rattle.exports.specs.Join.{joinedAs};
 use crate::told::order_told;
 use join::join;
 
@@ -23,7 +24,7 @@ pub extern "C" fn cs_join(
     tray: &[u8],
     room: &mut [u8],
 ) -> JoinResult
-    ensures { λ r. ⌜ JoinAnswered mod257 (orderTold t f n) stamp length (now (tray .entry)) (now (room .entry)) r (now (room .exit)) ⌝ }
+    ensures { λ r. ⌜ JoinDone mod257 (orderTold t f n) stamp length (now (tray .entry)) (now (room .entry)) (joinedAs r) (now (room .exit)) ⌝ }
 {
     let l = length as usize;
     let joined = join(order_told(t, f, n), stamp, l, tray, room);

@@ -1,8 +1,8 @@
 // cs_store and cs_fetch: the keeper's desk.
 ghost use mathlib.Core.Path.{_≡_};
-ghost use Rattle.desk.specs.Desk.{fetchNumber};
+ghost use Rattle.desk.specs.Desk.{StoreDone, fetchNumber};
 ghost use Rattle.exports.specs.Told.{orderTold};
-ghost use Rattle.exports.specs.Store.{StoreAnswered};
+ghost use Rattle.exports.specs.Store.{storedAs};
 use crate::told::order_told;
 use desk::fetch_number;
 use desk::store;
@@ -22,7 +22,7 @@ pub extern "C" fn cs_store(
     held: &mut [u8],
     letter: &[u8],
 ) -> StoreResult
-    ensures { λ r. ⌜ StoreAnswered (orderTold t f n) keeper (now (held .entry)) (now (letter .entry)) r (now (held .exit)) ⌝ }
+    ensures { λ r. ⌜ StoreDone (orderTold t f n) keeper (now (held .entry)) (now (letter .entry)) (storedAs r) (now (held .exit)) ⌝ }
 {
     let stored = store(order_told(t, f, n), keeper as usize, held, letter);
     StoreResult {

@@ -1,6 +1,7 @@
 // cs_pick: which stamp and length of a tray to join.
+ghost use Rattle.pick.specs.Pick.{PickDone};
 ghost use Rattle.exports.specs.Told.{orderTold};
-ghost use Rattle.exports.specs.Pick.{PickAnswered};
+ghost use Rattle.exports.specs.Pick.{pickedAs};
 use crate::told::order_told;
 use pick::pick;
 
@@ -13,7 +14,7 @@ pub struct PickResult {
 
 #[no_mangle]
 pub extern "C" fn cs_pick(t: u32, f: u32, n: u32, tray: &[u8]) -> PickResult
-    ensures { λ r. ⌜ PickAnswered (orderTold t f n) (now (tray .entry)) r ⌝ }
+    ensures { λ r. ⌜ PickDone (orderTold t f n) (now (tray .entry)) (pickedAs r) ⌝ }
 {
     let picked = pick(order_told(t, f, n), tray);
     PickResult {

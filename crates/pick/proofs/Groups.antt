@@ -13,9 +13,8 @@ use Rattle.lists.specs.Count.{count, count-same}
 use Rattle.lists.specs.From.{from, from-in}
 use Rattle.lists.specs.Member.{in-getD}
 use Rattle.header.specs.declared.order.Order.{Order}
-use Rattle.tray.specs.Tray.{usable}
+use Rattle.tray.specs.Tray.{usable, usableMany}
 use Rattle.pick.specs.Keys.{keyOf, sizeOf, KeysOf}
-use Rattle.pick.specs.Pick.{groupSize}
 use Rattle.pick.proofs.Letters.{usable-key, key-usable}
 
 -- a keeper of 1..n that passes a test
@@ -39,7 +38,7 @@ same-test false true f g = g refl
 same-test false false f g = refl
 
 module _ {order : Order} {tray keys : List ℕ} (are : KeysOf order tray keys) where
-  pub group-size : (stamp l : ℕ) → 1 ≤ stamp → l ≤ 952 → groupSize order tray stamp l ≡ sizeOf keys (order .n) (keyOf stamp l)
+  pub group-size : (stamp l : ℕ) → 1 ≤ stamp → l ≤ 952 → usableMany order stamp l tray ≡ sizeOf keys (order .n) (keyOf stamp l)
   unfolding sizeOf
   group-size stamp l least short =
       count-same (usable order stamp l tray) (λ x. eqb (getD keys (x - 1) 0) (keyOf stamp l)) (from 1 (order .n))

@@ -7,20 +7,15 @@ use mathlib.Core.Bool.{cond}
 use mathlib.Core.List.{List}
 use lib.Dec.{eqb}
 use lib.ListN.{length}
-use Rattle.lists.specs.Count.{count}
-use Rattle.lists.specs.From.{from}
 use Rattle.header.specs.declared.order.Order.{Order}
 use Rattle.header.specs.Order.{lawfulOrder}
-use Rattle.tray.specs.Tray.{usable}
+use Rattle.tray.specs.Tray.{usableMany}
 use Rattle.pick.specs.declared.Picked.{Picked}
 
--- "Good letters in a tray, of the order and in their own keeper's slot, are grouped by stamp and length": how many the group has
-abbrev pub groupSize : Order → List ℕ → ℕ → ℕ → ℕ
-groupSize order tray stamp l = count (usable order stamp l tray) (from 1 (order .n))
-
--- a "group of at least t+f+1 letters"
+-- "Good letters in a tray, of the order and in their own keeper's slot, are grouped by stamp and length": the group is what is usable under them. A
+-- "group of at least t+f+1 letters"
 abbrev pub Large : Order → List ℕ → ℕ → ℕ → Type 0
-Large order tray stamp l = order .t + order .f + 1 ≤ groupSize order tray stamp l
+Large order tray stamp l = order .t + order .f + 1 ≤ usableMany order stamp l tray
 
 -- "with the greatest stamp, and of those the greatest length"
 abbrev pub NotAfter : ℕ → ℕ → ℕ → ℕ → Type 0

@@ -4,6 +4,8 @@ use Prim.Native.Nat.{ℕ, _-_, _*_}
 use mathlib.Core.Bool.{Bool, false}
 use mathlib.Core.List.{List}
 use lib.ListN.{getD, take, drop}
+use Rattle.lists.specs.Count.{count}
+use Rattle.lists.specs.From.{from}
 use Rattle.header.specs.declared.order.Order.{Order}
 use Rattle.header.specs.declared.head.Head.{Head}
 use Rattle.header.specs.Head.{sameHead}
@@ -27,6 +29,10 @@ readsAs (Bad number place) told = false
 -- "A slot is usable if its letter reads as good and has this order, stamp and length and this slot's keeper number."
 unfoldable pub usable : Order → ℕ → ℕ → List ℕ → ℕ → Bool
 usable order stamp l tray x = readsAs (readOf (slotOf tray x)) (headFor order stamp l x)
+
+-- "With m usable": how many slots are
+abbrev pub usableMany : Order → ℕ → ℕ → List ℕ → ℕ
+usableMany order stamp l tray = count (usable order stamp l tray) (from 1 (order .n))
 
 -- word i of keeper x's letter of l
 unfoldable pub wordOf : List ℕ → ℕ → ℕ → ℕ → ℕ
