@@ -180,8 +180,12 @@ fn slot_of_the_page(page: &str) -> Vec<u8> {
 #[test]
 fn the_letter_in_hexadecimal() {
     let (page, mut both) = (page(), Both::start());
-    let tray = both.cut_byte(200, 100);
-    assert!(slot_of_the_page(&page) == tray[..SLOT], "not the bytes that are cut for keeper 1");
+    let rows = table(&page, "| t | f | n | stamp | keeper | secret | random words |");
+    let [t, f, n, stamp, keeper] = [0, 1, 2, 3, 4].map(|i| number(rows[0][i]));
+    let secret: Vec<u8> = numbers(rows[0][5]).into_iter().map(|byte| byte as u8).collect();
+    let random: Vec<u16> = numbers(rows[0][6]).into_iter().map(|word| word as u16).collect();
+    let mut tray = both.cut(Order::new(t, f, n), stamp, &secret, &random);
+    assert!(slot_of_the_page(&page) == slot(&mut tray, keeper), "not the bytes that are cut");
 }
 
 #[test]
@@ -189,7 +193,7 @@ fn the_letter_in_words() {
     let page = page();
     let rows = table(&page, "| words | hold |");
     let [places, values] = [0, 1].map(|i| rows.iter().flat_map(move |row| numbers(row[i])));
-    assert_eq!(places.clone().collect::<Vec<_>>(), (0..=16).chain(254..=255).collect::<Vec<_>>());
+    assert_eq!(places.clone().collect::<Vec<_>>(), (0..=19).chain(254..=255).collect::<Vec<_>>());
     let mut words: Words = [0; WORDS];
     for (place, value) in places.zip(values) {
         words[place as usize] = value;
