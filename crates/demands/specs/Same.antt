@@ -22,6 +22,7 @@ use Rattle.pick.specs.declared.Picked.{Picked}
 use Rattle.pick.specs.Pick.{NotAfter, picked, PickDone}
 use Rattle.pick.specs.Pick as pick
 use Rattle.lines.specs.Lines.{answerLine}
+use Rattle.report_text.specs.declared.answer.Answered.{Answered}
 use Rattle.report_text.specs.Report.{orderIn, trayIn, ReportOf, short, unpicked, joined, Reported}
 use Rattle.demands.specs.JoinAnswers.{not-refused-order}
 
@@ -76,28 +77,32 @@ pick-same order tray a b (pick.chosen s k e large most) (pick.refused q) = absur
 pick-same order tray a b (pick.chosen s k e large most) (pick.none p g) = absurd (g s k large)
 pick-same order tray a b (pick.chosen s k e large most) (pick.chosen stamp l p wide greatest) = one-group s k stamp l (greatest s k large) (most stamp l wide)
 
--- the report
-bytes-same : {input bytes bytes′ : List ℕ} → ReportOf input bytes → ReportOf input bytes′ → bytes ≡ bytes′
-bytes-same (short h) (short h′) = refl
-bytes-same (short h) (unpicked number whole D other) = absurd (omega arith)
-bytes-same (short h) (joined stamp l result left whole D J) = absurd (omega arith)
-bytes-same (unpicked number whole D other) (short h) = absurd (omega arith)
-bytes-same {input} (unpicked number whole D other) (unpicked number′ whole′ D′ other′) =
-    ap (λ (p : Picked). answerLine (p .number)) (pick-same (orderIn input) (trayIn input) _ _ D D′)
-bytes-same {input} (unpicked number whole D other) (joined stamp l result left whole′ D′ J) =
+-- the report: the bytes, with the number that they end in
+report-of-same : {input bytes bytes′ : List ℕ} {number number′ : ℕ} → ReportOf input number bytes → ReportOf input number′ bytes′
+    → (number ≡ number′) × (bytes ≡ bytes′)
+report-of-same (short h) (short h′) = (refl, refl)
+report-of-same (short h) (unpicked number whole D other) = absurd (omega arith)
+report-of-same (short h) (joined stamp l result left whole D J) = absurd (omega arith)
+report-of-same (unpicked number whole D other) (short h) = absurd (omega arith)
+report-of-same {input} (unpicked number whole D other) (unpicked number′ whole′ D′ other′) =
+    let e = ap (λ (p : Picked). p .number) (pick-same (orderIn input) (trayIn input) _ _ D D′) in
+    (e, ap answerLine e)
+report-of-same {input} (unpicked number whole D other) (joined stamp l result left whole′ D′ J) =
     absurd (other (ap (λ (p : Picked). p .number) (pick-same (orderIn input) (trayIn input) _ _ D D′)))
-bytes-same (joined stamp l result left whole D J) (short h) = absurd (omega arith)
-bytes-same {input} (joined stamp l result left whole D J) (unpicked number whole′ D′ other) =
+report-of-same (joined stamp l result left whole D J) (short h) = absurd (omega arith)
+report-of-same {input} (joined stamp l result left whole D J) (unpicked number whole′ D′ other) =
     absurd (other (ap (λ (p : Picked). p .number) (pick-same (orderIn input) (trayIn input) _ _ D′ D)))
-bytes-same {input} (joined stamp l result left whole D J) (joined stamp′ l′ result′ left′ whole′ D′ J′) =
+report-of-same {input} (joined stamp l result left whole D J) (joined stamp′ l′ result′ left′ whole′ D′ J′) =
     let one = pick-same (orderIn input) (trayIn input) _ _ D D′ in
     let stamps : stamp ≡ stamp′ = ap (λ (p : Picked). p .stamp) one in
     let lengths : l ≡ l′ = ap (λ (p : Picked). p .length) one in
     let results : result ≡ result′ = join-same mod257-letters (rw (stamps, lengths) at J) J′ .0 in
-    rw (stamps, lengths, results)
+    (ap (λ (r : Joined). r .number) results, rw (stamps, lengths, results))
 
-pub report-same : {input before after after′ : List ℕ} {count count′ : ℕ} → Reported input before count after → Reported input before count′ after′
-    → (count ≡ count′) × (after ≡ after′)
+pub report-same : {input before after after′ : List ℕ} {answered answered′ : Answered}
+    → Reported input before answered after → Reported input before answered′ after′ → (answered ≡ answered′) × (after ≡ after′)
 report-same {input} {before} R R′ =
-    let e = bytes-same (R .right) (R′ .right) in
-    (R .counted ∙ (ap length e ∙ sym (R′ .counted)), R .written ∙ (ap (λ (bytes : List ℕ). bytes ++ drop (length bytes) before) e ∙ sym (R′ .written)))
+    let e = report-of-same (R .right) (R′ .right) in
+    let counts = R .counted ∙ (ap length (e .1) ∙ sym (R′ .counted)) in
+    let written = R .written ∙ (ap (λ (bytes : List ℕ). bytes ++ drop (length bytes) before) (e .1) ∙ sym (R′ .written)) in
+    (λ i. record { count = counts i; number = e .0 i }, written)

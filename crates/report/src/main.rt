@@ -1,9 +1,4 @@
-// The reporting program: an order and a tray on standard input, the report on standard output.
+// The program as `rt` builds and runs it, without a status: Rattle's `main` returns none.
 fn main() {
-    // One byte more than the longest input, so that a longer one is seen to be too long.
-    let mut input = [0u8; 32772];
-    let given = io::read_full(libc::STDIN_FILENO, &mut input);
-    let mut out = [0u8; 512];
-    let count = report_text::report(&input[..given], &mut out);
-    io::write_all(libc::STDOUT_FILENO, &out[..count]);
+    reporting::report_run();
 }

@@ -8,12 +8,13 @@ use native.Mathlib.Omega.{arith}
 use lib.ListN.{length, take, drop, length-drop}
 use lib.Seq.{take-all}
 use Rattle.lines.specs.Lines.{answerLine}
-use Rattle.lines.specs.Written.{Written}
 use Rattle.header.specs.declared.order.Order.{Order}
 use Rattle.pick.specs.declared.Picked.{Picked}
 use Rattle.pick.specs.Pick.{PickDone}
+use Rattle.report_text.specs.declared.answer.Answered.{Answered}
 use Rattle.report_text.specs.Joined.{JoinedReported}
 use Rattle.report_text.specs.PickedLaws.{none-picked, one-picked}
+use Rattle.report_text.specs.Placed.{Placed}
 use Rattle.report_text.specs.Report.{orderIn, trayIn, ReportOf, short, unpicked, joined, Reported}
 
 -- a part up to the end is all that follows
@@ -27,18 +28,20 @@ pub record PickedOf (input : List ℕ) (order : Order) (tray : List ℕ) (p : Pi
   pub in-it : tray ≡ trayIn input
   pub pick : PickDone order tray p
 
-module _ {input before after : List ℕ} {count : ℕ} where
-  reported : {bytes : List ℕ} → ReportOf input bytes → Written before 0 bytes after count → Reported input before count after
-  reported {bytes} right w = record { bytes = bytes; right = right; counted = w .place ∙ zero-add (length bytes); written = rw zero-add at (w .laid) }
+module _ {input before after : List ℕ} {answered : Answered} where
+  reported : {number : ℕ} {bytes : List ℕ} → ReportOf input number bytes → Placed number bytes before answered after → Reported input before answered after
+  reported {number} {bytes} right p =
+      let w = p .written in
+      record { bytes = bytes; right = rw (← p .numbered) at right; counted = w .place ∙ zero-add (length bytes); written = rw zero-add at (w .laid) }
 
-  pub short-reported : length input < 3 → Written before 0 (answerLine 4) after count → Reported input before count after
-  short-reported few w = reported (short few) w
+  pub short-reported : length input < 3 → Placed 4 (answerLine 4) before answered after → Reported input before answered after
+  short-reported few p = reported (short few) p
 
   module _ {order : Order} {tray : List ℕ} {p : Picked} (c : PickedOf input order tray p) where
-    pub unpicked-reported : (p .number ≡ 0 → ⊥) → Written before 0 (answerLine (p .number)) after count → Reported input before count after
+    pub unpicked-reported : (p .number ≡ 0 → ⊥) → Placed (p .number) (answerLine (p .number)) before answered after → Reported input before answered after
     unpicked-reported other w = reported (unpicked (p .number) (c .whole) (rw (c .of, c .in-it) at (none-picked (c .pick) other)) other) w
 
-    pub joined-reported : p .number ≡ 0 → JoinedReported order (p .stamp) (p .length) tray before count after → Reported input before count after
+    pub joined-reported : p .number ≡ 0 → JoinedReported order (p .stamp) (p .length) tray before answered after → Reported input before answered after
     joined-reported e j =
         reported (joined (p .stamp) (p .length) (j .result) (j .left) (c .whole) (rw (c .of, c .in-it) at (one-picked (c .pick) e)) (rw (c .of, c .in-it) at (j .done)))
-        (rw (c .of, c .in-it) at (j .written))
+        (rw (c .of, c .in-it) at (j .placed))

@@ -18,6 +18,7 @@ use Rattle.tray.specs.Tray.{usable}
 use Rattle.pick.specs.Pick.{PickDone, picked}
 use Rattle.join.specs.declared.Joined.{Joined}
 use Rattle.join.specs.Join.{JoinDone}
+use Rattle.report_text.specs.declared.answer.Answered.{Answered}
 
 -- "'Absent' means not usable in the group picked. For 7 every usable keeper is 'present'." "For 8 it reads as for 0."
 abbrev pub standing : ℕ → Bool → Bool → Standing
@@ -49,18 +50,20 @@ orderIn input = record { t = getD input 0 0; f = getD input 1 0; n = getD input 
 abbrev pub trayIn : List ℕ → List ℕ
 trayIn input = drop 3 input
 
--- what the report of an input is: fewer bytes than an order are answer 4; then the pick, and the join of what it picked
-pub data ReportOf (input : List ℕ) : List ℕ → Type 0 where
-  short : length input < 3 → ReportOf input (answerLine 4)
-  unpicked : (number : ℕ) → 3 ≤ length input → PickDone (orderIn input) (trayIn input) (picked number 0 0) → (number ≡ 0 → ⊥) → ReportOf input (answerLine number)
+-- what the report of an input is, and its number, which the last line has: fewer bytes than an order are answer 4; then the pick, and the join of what
+-- it picked
+pub data ReportOf (input : List ℕ) : ℕ → List ℕ → Type 0 where
+  short : length input < 3 → ReportOf input 4 (answerLine 4)
+  unpicked : (number : ℕ) → 3 ≤ length input → PickDone (orderIn input) (trayIn input) (picked number 0 0) → (number ≡ 0 → ⊥)
+      → ReportOf input number (answerLine number)
   joined : (stamp l : ℕ) (result : Joined) (left : List ℕ) → 3 ≤ length input
       → PickDone (orderIn input) (trayIn input) (picked 0 stamp l)
       → JoinDone mod257 (orderIn input) stamp l (trayIn input) (replicate l 0) result left
-      → ReportOf input (lines (orderIn input) (trayIn input) stamp l result)
+      → ReportOf input (result .number) (lines (orderIn input) (trayIn input) stamp l result)
 
--- the report stands at the start of the space lent, the count of its bytes is answered, and the rest of the space is as it was
-pub record Reported (input before : List ℕ) (count : ℕ) (after : List ℕ) : Type 0 where
+-- the report stands at the start of the space lent, the count of its bytes and its number are answered, and the rest of the space is as it was
+pub record Reported (input before : List ℕ) (answered : Answered) (after : List ℕ) : Type 0 where
   pub bytes : List ℕ
-  pub right : ReportOf input bytes
-  pub counted : count ≡ length bytes
+  pub right : ReportOf input (answered .number) bytes
+  pub counted : answered .count ≡ length bytes
   pub written : after ≡ bytes ++ drop (length bytes) before

@@ -4,6 +4,7 @@ ghost use lib.ListN.{length};
 ghost use Rattle.lists.specs.KeeperSet.{keeperSet};
 ghost use Rattle.tray.specs.Tray.{usable};
 ghost use Rattle.report_text.specs.Joined.{Joinable, JoinedReported};
+use crate::answer::Answered;
 use crate::line::put_lines;
 use header::order::Order;
 use join::join;
@@ -19,12 +20,16 @@ fn usable_in(o: Order, stamp: u32, l: usize, tray: &[u8]) -> u16
 }
 
 // The report of the join of what is picked.
-pub fn report_joined(o: Order, stamp: u32, l: usize, tray: &[u8], out: &mut [u8]) -> usize
+pub fn report_joined(o: Order, stamp: u32, l: usize, tray: &[u8], out: &mut [u8]) -> Answered
     requires { ⌜ Joinable o l (now tray) ⌝ ∗ ⌜ length (now out) ≡ 512 ⌝ }
     ensures { λ r. ⌜ JoinedReported o stamp l (now (tray .entry)) (now (out .entry)) r (now (out .exit)) ⌝ }
 {
     let mut room = [0u8; 952];
     let joined = join(o, stamp, l, tray, &mut room[..l]);
     let usable = usable_in(o, stamp, l, tray);
-    put_lines(out, o.n, stamp, l as u32, usable, joined)
+    let count = put_lines(out, o.n, stamp, l as u32, usable, joined);
+    Answered {
+        count,
+        number: joined.number,
+    }
 }

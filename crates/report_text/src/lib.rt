@@ -3,34 +3,36 @@ ghost use mathlib.Core.Path.{_≡_};
 ghost use Prim.Native.Nat.{_≤_};
 ghost use lib.ListN.{length};
 ghost use Rattle.report_text.specs.Report.{orderIn, Reported};
+use crate::answer::Answered;
+use crate::answer::answer_alone;
 use crate::joined::report_joined;
 use header::order::Order;
-use lines::line::put_answer_line;
 use pick::pick;
 
+pub mod answer;
 mod joined;
 mod keeper;
 mod line;
 
 // The report of an input that has an order: of what is picked.
-fn report_picked(o: Order, input: &[u8], out: &mut [u8]) -> usize
+fn report_picked(o: Order, input: &[u8], out: &mut [u8]) -> Answered
     requires { ⌜ 3 ≤ length (now input) ⌝ ∗ ⌜ o ≡ orderIn (now input) ⌝ ∗ ⌜ length (now out) ≡ 512 ⌝ }
     ensures { λ r. ⌜ Reported (now (input .entry)) (now (out .entry)) r (now (out .exit)) ⌝ }
 {
     let tray = &input[3..];
     let picked = pick(o, tray);
     if picked.number != 0 {
-        return put_answer_line(out, 0, picked.number);
+        return answer_alone(out, picked.number);
     }
     report_joined(o, picked.stamp, picked.length, tray, out)
 }
 
-// Writes the report, and answers the count of its bytes.
-pub fn report(input: &[u8], out: &mut [u8; 512]) -> usize
+// Writes the report, and answers the count of its bytes and its number.
+pub fn report(input: &[u8], out: &mut [u8; 512]) -> Answered
     ensures { λ r. ⌜ Reported (now (input .entry)) (now (out .entry)) r (now (out .exit)) ⌝ }
 {
     if input.len() < 3 {
-        return put_answer_line(out, 0, 4);
+        return answer_alone(out, 4);
     }
     let o = Order {
         t: input[0] as usize,

@@ -6,11 +6,11 @@ use Rattle.report_text.proofs.Reporting.{short-reported}
 use Rattle.report_text.proofs.report.Statement.{statement}
 use Rattle.report_text.proofs.report.Tie as tie
 
-put-answer-line-requires : tie.Need-put-answer-line-requires
-put-answer-line-requires c κs = search needs
+answer-alone-requires : tie.Need-answer-alone-requires
+answer-alone-requires c κs = search needs
 
 returns : tie.Need-returns
-returns c = short-reported (c .before .before .if1 .taken) (c .put-answer-line .ensures)
+returns c = short-reported (c .before .before .if1 .taken) (c .answer-alone .ensures)
 
 shared-slice-read-t9 : tie.Need-shared-slice-read-t9
 shared-slice-read-t9 c = search needs
@@ -40,7 +40,7 @@ pub report-spec : {M : Type 1} → statement M
 report-spec =
     tie.close
     (tie.spec
-    put-answer-line-requires
+    answer-alone-requires
     returns
     shared-slice-read-t9
     cast-t4

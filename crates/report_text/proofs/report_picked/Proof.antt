@@ -21,8 +21,8 @@ part-tray-end c = search needs
 pick-requires : tie.Need-pick-requires
 pick-requires c κs = search needs
 
-put-answer-line-requires : tie.Need-put-answer-line-requires
-put-answer-line-requires c κs = search needs
+answer-alone-requires : tie.Need-answer-alone-requires
+answer-alone-requires c κs = search needs
 
 same-length : tie.Need-same-length
 same-length c = search needs
@@ -37,7 +37,7 @@ returns : tie.Need-returns
 returns c =
     let line = c .before .before in
     let way = line .before .before in
-    unpicked-reported (of-input (way .before .before)) (way .if1 .taken) (line .put-answer-line .ensures)
+    unpicked-reported (of-input (way .before .before)) (way .if1 .taken) (line .answer-alone .ensures)
 
 report-joined-requires : tie.Need-report-joined-requires
 report-joined-requires c κs = (picked-joinable (c .before .before .before .pick .ensures) (c .before .if1 .left), omega arith)
@@ -59,7 +59,7 @@ report-picked-spec =
     part-tray-start
     part-tray-end
     pick-requires
-    put-answer-line-requires
+    answer-alone-requires
     same-length
     returns
     report-joined-requires

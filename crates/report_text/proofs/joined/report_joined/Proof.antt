@@ -1,5 +1,6 @@
 -- `report_text::joined::report_joined` meets its contract: the join is done in a room of zeros, and its lines are written by the set of the usable keepers.
 -- Assumes nothing.
+use mathlib.Core.Path.{refl}
 use native.Mathlib.Omega.{arith}
 use borrow.Author.Needs.{needs}
 use Rattle.report_text.specs.Sets.{lines-of-set}
@@ -34,7 +35,7 @@ returns c =
     let usables = lines .before .before in
     let join = usables .before .before in
     let a = join .before .before .before .before .args in
-    record { result = join .join .result; left = join .join .last .1 .1 .1 .1 .0; done = rw (take-zeros (a .l) 952 (omega arith)) at (join .join .ensures); written = rw (usables .usable-in .ensures, lines-of-set) at (lines .put-lines .ensures) }
+    record { result = join .join .result; left = join .join .last .1 .1 .1 .1 .0; done = rw (take-zeros (a .l) 952 (omega arith)) at (join .join .ensures); placed = record { written = rw (usables .usable-in .ensures, lines-of-set) at (lines .put-lines .ensures); numbered = refl } }
 
 pub report-joined-spec : {M : Type 1} → statement M
 report-joined-spec =
