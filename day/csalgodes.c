@@ -8,10 +8,15 @@
 #include "numbers.h"
 #include "random.h"
 
-int printf(const char *format, ...);
 int strcmp(const char *one, const char *other);
 
 enum { SLOT = 2048, MOST_KEEPERS = 16, MOST_T = 7, MOST_LENGTH = 952 };
+
+/* What cannot be said is trouble with a file, too. */
+#define say(...)                                                                       \
+    do {                                                                               \
+        if (dprintf(1, __VA_ARGS__) < 0) fail("standard output", "cannot be written"); \
+    } while (0)
 
 typedef struct {
     uint32_t t, f, n;
@@ -81,8 +86,8 @@ static answer cut(char **word) {
 static answer read_slot(char **word) {
     cs_read_result r = cs_read(slot, load(word[0], slot, sizeof slot));
     if (r.number == 0) {
-        printf("order %u %u %u keeper %u stamp %u length %u\n", r.t, r.f, r.n, r.keeper, r.stamp,
-               r.length);
+        say("order %u %u %u keeper %u stamp %u length %u\n", r.t, r.f, r.n, r.keeper, r.stamp,
+            r.length);
     }
     return (answer){r.number, r.place};
 }
@@ -112,18 +117,18 @@ static answer pick(char **word) {
     order o = order_in(word);
     size_t tray_length = load_tray(o, word[3]);
     cs_pick_result r = cs_pick(o.t, o.f, o.n, tray, tray_length);
-    if (r.number == 0) printf("stamp %u length %u\n", r.stamp, r.length);
+    if (r.number == 0) say("stamp %u length %u\n", r.stamp, r.length);
     return (answer){r.number, 0};
 }
 
 static void tell_agreement(order o, cs_join_result r) {
-    printf("usable %u need %u\n", r.usable, r.need);
+    say("usable %u need %u\n", r.usable, r.need);
     if (r.set == 0) return;
-    printf("keepers that match:");
+    say("keepers that match:");
     for (uint32_t x = 1; x <= o.n; x++) {
-        if (r.set >> (x - 1) & 1) printf(" %u", x);
+        if (r.set >> (x - 1) & 1) say(" %u", x);
     }
-    printf("\n");
+    say("\n");
 }
 
 /* T F N STAMP LENGTH TRAY SECRET */
@@ -156,21 +161,36 @@ static const struct {
 enum { COMMANDS = sizeof commands / sizeof commands[0] };
 
 static void tell(answer a) {
-    printf("answer %u", a.number);
-    if (has_place(a.number)) printf(" in block %u", a.place);
-    printf(": %s\n", words_of[a.number]);
+    say("answer %u", a.number);
+    if (has_place(a.number)) say(" in block %u", a.place);
+    say(": %s\n", words_of[a.number]);
+}
+
+static void usage(int file) {
+    dprintf(file, "usage:\n");
+    for (int i = 0; i < COMMANDS; i++) {
+        dprintf(file, "  csalgodes %s %s\n", commands[i].name, commands[i].words);
+    }
+}
+
+static void help(void) {
+    usage(1);
+    say("T F N is the order, SLOT, HELD and LETTER are files of 2048 bytes, TRAY is a folder of them,\n"
+        "named 1 .. N. The status is the answer's number; %d is trouble with a file or a word.\n",
+        TROUBLE);
 }
 
 int main(int count, char **word) {
+    if (count == 2 && strcmp(word[1], "--help") == 0) {
+        help();
+        return 0;
+    }
     for (int i = 0; count > 1 && i < COMMANDS; i++) {
         if (strcmp(word[1], commands[i].name) != 0 || count - 2 != commands[i].count) continue;
         answer a = commands[i].call(word + 2);
         tell(a);
         return (int)a.number;
     }
-    dprintf(2, "usage:\n");
-    for (int i = 0; i < COMMANDS; i++) {
-        dprintf(2, "  csalgodes %s %s\n", commands[i].name, commands[i].words);
-    }
+    usage(2);
     return TROUBLE;
 }

@@ -7,20 +7,30 @@
 
 /* Declared here, since where the kit's compiler builds this no header of the C library is at hand. */
 int open(const char *path, int flags, ...);
-int creat(const char *path, unsigned mode);
+int mkstemp(char *path);
 long read(int file, void *bytes, size_t count);
 long write(int file, const void *bytes, size_t count);
 int close(int file);
 int rename(const char *from, const char *to);
+int unlink(const char *path);
+void perror(const char *text);
 int snprintf(char *to, size_t size, const char *format, ...);
 int dprintf(int file, const char *format, ...);
 _Noreturn void exit(int status);
 
 /* The status of trouble that is no answer of the library's: above all its numbers. */
-enum { TROUBLE = 100, OWNER_ALONE = 0600, LONGEST_PATH = 4096 };
+enum { TROUBLE = 100, LONGEST_PATH = 4096 };
 
 static _Noreturn void stop(const char *what, const char *trouble) {
     dprintf(2, "csalgodes: %s: %s\n", what, trouble);
+    exit(TROUBLE);
+}
+
+/* The same, with the reason that the system has for it. */
+static _Noreturn void fail(const char *what, const char *trouble) {
+    char text[LONGEST_PATH + 64];
+    snprintf(text, sizeof text, "csalgodes: %s: %s", what, trouble);
+    perror(text);
     exit(TROUBLE);
 }
 
@@ -30,35 +40,40 @@ static size_t load(const char *path, void *to, size_t limit) {
     size_t count = 0;
     long some = 1;
     int file = open(path, 0);
-    if (file < 0) stop(path, "cannot be opened");
+    if (file < 0) fail(path, "cannot be opened");
     while (count < limit && some > 0) {
         some = read(file, bytes + count, limit - count);
-        if (some < 0) stop(path, "cannot be read");
+        if (some < 0) fail(path, "cannot be read");
         count += (size_t)some;
     }
     close(file);
     return count;
 }
 
-static void write_all(const char *path, const uint8_t *bytes, size_t count) {
-    int file = creat(path, OWNER_ALONE);
-    if (file < 0) stop(path, "cannot be made");
+static int wrote_all(int file, const uint8_t *bytes, size_t count) {
     while (count > 0) {
         long some = write(file, bytes, count);
-        if (some <= 0) stop(path, "cannot be written");
+        if (some <= 0) return 0;
         bytes += some;
         count -= (size_t)some;
     }
-    if (close(file) != 0) stop(path, "cannot be written");
+    return close(file) == 0;
 }
 
-/* Written beside it and renamed, so that the file is replaced whole or not at all. */
+/*
+ * Written beside it and renamed, so that the file is replaced whole or not at all. What is beside it has a
+ * name that no other has, and is its owner's alone from the start.
+ */
 static void save(const char *path, const uint8_t *bytes, size_t count) {
     char beside[LONGEST_PATH];
-    int size = snprintf(beside, sizeof beside, "%s.new", path);
+    int size = snprintf(beside, sizeof beside, "%s.XXXXXX", path);
     if (size < 0 || size >= LONGEST_PATH) stop(path, "is too long a name");
-    write_all(beside, bytes, count);
-    if (rename(beside, path) != 0) stop(path, "cannot be replaced");
+    int file = mkstemp(beside);
+    if (file < 0) fail(path, "cannot be made");
+    if (wrote_all(file, bytes, count) && rename(beside, path) == 0) return;
+    perror("csalgodes");
+    unlink(beside);
+    stop(path, "cannot be written, and is as it was");
 }
 
 #endif

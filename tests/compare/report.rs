@@ -2,6 +2,8 @@
 
 use std::fs::File;
 use std::io::Write;
+use std::os::fd::OwnedFd;
+use std::os::unix::net::UnixStream;
 use std::process::{Command, Output, Stdio};
 use std::thread;
 
@@ -14,14 +16,44 @@ use second::random::Random;
 use second::report::report;
 use second::tally::Tally;
 
-fn written(output: Output) -> String {
-    assert!(output.status.success() && output.stderr.is_empty(), "{output:?}");
-    String::from_utf8(output.stdout).expect("the report is text")
+const UNREAD: &str = "report: standard input cannot be read\n";
+const UNWRITTEN: &str = "report: standard output cannot be written\n";
+
+fn report_program() -> Command {
+    program("programs/report")
 }
 
-/// What the program writes when its input comes in pieces of this size.
-fn run_on(input: &[u8], piece: usize) -> String {
-    let mut process = program("bin/report")
+/// The program, started by a shell as this line of it says.
+fn by_shell(line: &str) -> Command {
+    let report = report_program();
+    let mut shell = Command::new("/bin/sh");
+    shell.args(["-c", line, "sh"]).arg(report.get_program()).args(report.get_args());
+    shell
+}
+
+/// How a run ended: what it wrote, what it said of trouble, and its status, none where a signal ended it.
+#[derive(Debug, PartialEq)]
+struct Ended {
+    text: String,
+    trouble: String,
+    status: Option<i32>,
+}
+
+impl Ended {
+    fn of(output: Output) -> Ended {
+        let [text, trouble] = [output.stdout, output.stderr]
+            .map(|bytes| String::from_utf8(bytes).expect("what it writes is text"));
+        Ended { text, trouble, status: output.status.code() }
+    }
+
+    fn told(text: &str, trouble: &str, status: i32) -> Ended {
+        Ended { text: text.into(), trouble: trouble.into(), status: Some(status) }
+    }
+}
+
+/// How the program ends when its input comes in pieces of this size.
+fn run_on(input: &[u8], piece: usize) -> Ended {
+    let mut process = report_program()
         .stdin(Stdio::piped())
         .stdout(Stdio::piped())
         .stderr(Stdio::piped())
@@ -31,7 +63,7 @@ fn run_on(input: &[u8], piece: usize) -> String {
     thread::scope(|scope| {
         // the program may end before it has taken all of an input that is too long
         scope.spawn(move || input.chunks(piece).try_for_each(|bytes| pipe.write_all(bytes)));
-        written(process.wait_with_output().expect("the program ends"))
+        Ended::of(process.wait_with_output().expect("the program ends"))
     })
 }
 
@@ -43,10 +75,11 @@ struct Reports {
 
 impl Reports {
     fn same_in_pieces(&mut self, input: &[u8], piece: usize) {
-        let expected = String::from_utf8(report(input)).expect("the report is text");
-        assert_eq!(run_on(input, piece), expected);
-        let number = expected.trim_end().rsplit(' ').next().expect("a last word");
-        self.tally.add(number.parse().expect("an answer"));
+        let text = String::from_utf8(report(input)).expect("the report is text");
+        let number = text.trim_end().rsplit(' ').next().expect("a last word");
+        let number: u32 = number.parse().expect("an answer");
+        assert_eq!(run_on(input, piece), Ended::told(&text, "", number as i32));
+        self.tally.add(number);
     }
 
     fn same(&mut self, input: &[u8]) {
@@ -210,34 +243,90 @@ fn an_input_that_comes_in_pieces() {
 /// Nothing to read, in each way that a shell can arrange it.
 #[test]
 fn no_input_at_all() {
-    let nothing = String::from_utf8(report(&[])).expect("the report is text");
-    assert_eq!(nothing, "answer 4\n");
+    assert_eq!(report(&[]), b"answer 4\n");
     let empty = File::open("/dev/null").expect("the empty file");
-    let output = program("bin/report").stdin(empty).output().expect("the program ends");
-    assert_eq!(written(output), nothing);
+    let output = report_program().stdin(empty).output().expect("the program ends");
+    assert_eq!(Ended::of(output), Ended::told("answer 4\n", "", 4));
 
-    let report = program("bin/report");
-    let mut closed = Command::new("/bin/sh");
-    closed.args(["-c", "exec \"$@\" <&-", "sh"]).arg(report.get_program()).args(report.get_args());
-    assert_eq!(written(closed.output().expect("the program ends")), nothing);
+    let output = by_shell("exec \"$@\" <&-").output().expect("the program ends");
+    assert_eq!(Ended::of(output), Ended::told("answer 4\n", UNREAD, 4));
 }
 
 /// A file that cannot be read, which is not the same as one that ends.
 #[test]
 fn an_input_that_cannot_be_read() {
     let directory = File::open(env!("CARGO_MANIFEST_DIR")).expect("a directory");
-    let output = program("bin/report").stdin(directory).output().expect("the program ends");
-    assert_eq!(written(output), "answer 4\n");
+    let output = report_program().stdin(directory).output().expect("the program ends");
+    assert_eq!(Ended::of(output), Ended::told("answer 4\n", UNREAD, 4));
 }
 
+/// All of an input that is answered with 0, and then a read that fails: whether more was to come cannot
+/// be told, so it must not be taken for the whole.
 #[test]
-fn the_example_of_the_page() {
+fn a_read_that_fails_after_a_whole_tray() {
+    for fails in [false, true] {
+        let (mut sender, mut receiver) = UnixStream::pair().expect("two ends of a socket");
+        sender.write_all(&example()).expect("there is room for it");
+        if fails {
+            // a sender that goes away with something unread resets the connection, and what it has
+            // sent can still be read first
+            receiver.write_all(b"?").expect("there is room for it");
+        }
+        drop(sender);
+        let output = report_program().stdin(OwnedFd::from(receiver)).output();
+        let ended = Ended::of(output.expect("the program ends"));
+        if fails {
+            assert_eq!(ended, Ended::told("answer 4\n", UNREAD, 4));
+        } else {
+            let text = String::from_utf8(report(&example())).expect("the report is text");
+            assert_eq!(ended, Ended::told(&text, "", 0));
+        }
+    }
+}
+
+/// How a command ends on an input whose report is right, where nobody reads what it writes: the pipe's
+/// other end is closed before it has all of its input.
+fn into_closed_pipe(mut command: Command) -> Option<i32> {
+    command.stdin(Stdio::piped()).stdout(Stdio::piped()).stderr(Stdio::null());
+    let mut process = command.spawn().expect("the gate builds the report and what runs it");
+    drop(process.stdout.take());
+    let mut pipe = process.stdin.take().expect("it was asked for");
+    pipe.write_all(&example()).expect("the program reads all of its input");
+    drop(pipe);
+    process.wait().expect("the program ends").code()
+}
+
+/// `report && sign` must not sign where nobody has seen the report.
+#[test]
+fn a_report_that_cannot_be_written() {
+    let path = format!("{}/example.input", env!("CARGO_TARGET_TMPDIR"));
+    std::fs::write(&path, example()).expect("the tests may write here");
+    let input = || File::open(&path).expect("it was written");
+
+    let closed = by_shell("exec \"$@\" >&-").stdin(input()).output();
+    assert_eq!(Ended::of(closed.expect("the program ends")), Ended::told("", UNWRITTEN, 100));
+
+    let full = by_shell("exec \"$@\" >/dev/full").stdin(input()).output();
+    assert_eq!(Ended::of(full.expect("the program ends")), Ended::told("", UNWRITTEN, 100));
+
+    assert_ne!(into_closed_pipe(report_program()), Some(0));
+    let signal_ignored = by_shell("trap '' PIPE; exec \"$@\"");
+    assert_eq!(into_closed_pipe(signal_ignored), Some(100));
+}
+
+/// The input of the page's example.
+fn example() -> Vec<u8> {
     let order = Order::new(1, 1, 6);
     let mut tray = vec![0; order.tray()];
     assert_eq!(second::cut::cut(order, 7, &[200], &[100], &mut tray), 0);
     lie(slot(&mut tray, 3), 0, 0);
     slot(&mut tray, 6).fill(0);
+    input(order, &tray)
+}
+
+#[test]
+fn the_example_of_the_page() {
     let mut reports = Reports::default();
-    reports.same_tray(order, &tray);
+    reports.same(&example());
     reports.tally.expect(1, &[0]);
 }
