@@ -314,6 +314,22 @@ fn a_report_that_cannot_be_written() {
     assert_eq!(into_closed_pipe(signal_ignored), Some(100));
 }
 
+/// It takes no words, and does not wait for its input to say so. 0 would say that there is a report
+/// with answer 0.
+#[test]
+fn words() {
+    for word in ["--help", "-h", "tray", ""] {
+        let mut report = report_program();
+        report.arg(word).stdin(Stdio::piped()).stdout(Stdio::piped()).stderr(Stdio::piped());
+        let mut process = report.spawn().expect("the gate builds the report and what runs it");
+        let open = process.stdin.take();
+        let ended = Ended::of(process.wait_with_output().expect("the program ends"));
+        drop(open);
+        assert!(ended.trouble.starts_with("usage: report <INPUT"), "{ended:?}");
+        assert_eq!((ended.text.as_str(), ended.status), ("", Some(100)));
+    }
+}
+
 /// The input of the page's example.
 fn example() -> Vec<u8> {
     let order = Order::new(1, 1, 6);

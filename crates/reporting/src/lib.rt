@@ -3,6 +3,7 @@ ghost use mathlib.Core.Path.{_≡_};
 ghost use mathlib.Core.List.{List};
 ghost use Prim.Native.Nat.{ℕ, _≤_};
 ghost use Rattle.reporting.specs.Status.{statusOf, Ended};
+use crate::standard::refuse_words;
 use crate::standard::taken;
 use crate::standard::wrote;
 use report_text::report;
@@ -33,6 +34,9 @@ fn write_report(input: &[u8]) -> i32
 pub extern "C" fn report_run() -> i32
     ensures { λ r. ⌜ ((input : List ℕ) × Ended input r) ⌝ }
 {
+    if os::arg_count() > 1 {
+        return refuse_words();
+    }
     // One byte more than the longest input, so that a longer one is seen to be too long.
     let mut input = [0u8; 32772];
     let given = taken(&mut input);

@@ -1,7 +1,8 @@
-// Standard input and standard output, each whole or not at all.
+// What the program takes and writes: standard input and standard output, each whole or not at all, and no words.
 ghost use mathlib.Core.Path.{_≡_};
 ghost use mathlib.Core.Bool.{cond};
 ghost use Prim.Native.Nat.{_+_, _≤_};
+ghost use lib.IntN.{pos};
 ghost use lib.ListN.{length};
 ghost use Rattle.io.specs.Counts.{Counts};
 
@@ -62,4 +63,19 @@ pub fn wrote(bytes: &[u8]) -> bool {
         b"report: standard output cannot be written\n",
     );
     false
+}
+
+// Says how to call it. The status is no number of a report, also for --help: 0 says that there is one with answer 0.
+pub fn refuse_words() -> i32
+    ensures { λ r. ⌜ r ≡ pos 100 ⌝ }
+{
+    io::write_all(
+        libc::STDERR_FILENO,
+        b"usage: report <INPUT, where INPUT is three bytes t, f, n and then the tray.\n",
+    );
+    io::write_all(
+        libc::STDERR_FILENO,
+        b"The status is the number of the answer, or 100 where no report was written.\n",
+    );
+    100
 }
