@@ -26,11 +26,15 @@ static _Noreturn void stop(const char *what, const char *trouble) {
     exit(TROUBLE);
 }
 
-/* The same, with the reason that the system has for it. */
-static _Noreturn void fail(const char *what, const char *trouble) {
+/* Says what the trouble is, with the reason that the system has for it. */
+static void complain(const char *what, const char *trouble) {
     char text[LONGEST_PATH + 64];
     snprintf(text, sizeof text, "csalgodes: %s: %s", what, trouble);
     perror(text);
+}
+
+static _Noreturn void fail(const char *what, const char *trouble) {
+    complain(what, trouble);
     exit(TROUBLE);
 }
 
@@ -71,9 +75,9 @@ static void save(const char *path, const uint8_t *bytes, size_t count) {
     int file = mkstemp(beside);
     if (file < 0) fail(path, "cannot be made");
     if (wrote_all(file, bytes, count) && rename(beside, path) == 0) return;
-    perror("csalgodes");
+    complain(path, "cannot be written, and is as it was");
     unlink(beside);
-    stop(path, "cannot be written, and is as it was");
+    exit(TROUBLE);
 }
 
 #endif
