@@ -1,47 +1,40 @@
 /*
  * Csalgodes: shares of a signing key that come back right or not at all.
  *
- * The functions of the proved library, for C on x86-64 Linux. library/build lays libcsalgodes.a,
- * libcsalgodes.so and this header in target/library. A program links either, as in
+ * A secret is cut into letters, one for each of n keepers. Later the letters that can still be had are
+ * joined. Some may be old, some damaged, up to f of them lies; the secret comes back, or a number says
+ * why not. The words that the calls use:
+ *
+ *    secret   the key, 1..952 bytes.
+ *    keeper   one who keeps a letter. Keepers are numbered 1..n.
+ *    t        any t keepers together learn nothing of the secret but its length. t is 1..7.
+ *    f        so many of the letters joined may be lies. f is at most t.
+ *    n        how many keepers there are, from t+4f+1 to 16.
+ *    order    t, f and n together. Whoever cuts, keeps or joins a key is told the same order.
+ *    letter   what one keeper keeps of one cut: the order, the keeper's number, the stamp, the secret's
+ *             length, one share word for each byte of the secret, and check words. These find damage. They
+ *             do not stop a liar, who can write good ones.
+ *    slot     2048 bytes, which hold one letter, or all zeros where there is none.
+ *    tray     n slots end to end. Slot x, counted from 1, is keeper x's.
+ *    stamp    the number of a cut, 1..4294967295. Who cuts chooses it, and takes a greater one for each new
+ *             cut of a key: desks keep the greatest and refuse an older. Two cuts never share a stamp, since
+ *             nothing else tells their letters apart, and mixed they do not join.
+ *    desk     where a keeper keeps his letter: one slot, all zeros at first, changed by cs_store alone.
+ *
+ * For C and C++ on x86-64 Linux. A program is built, after library/build, or after library/install, by
  *
  *    gcc program.c -I target/library target/library/libcsalgodes.a
+ *    gcc program.c $(pkg-config --cflags --libs csalgodes)
  *
- * Each may be called with any values of its types: what is wrong with them is answered by a number,
- * never by a fault. What is lent is a pointer and the number of elements behind it, and must really be
- * there; the pointer is not NULL, even where the number is 0. A lent part that is written must not
- * overlap another.
+ * Each call takes any values of its types: what is wrong with them is answered by a number, never by a
+ * fault. What is lent is a pointer and the count of elements behind it, which must really be there. Where
+ * the count is 0 the pointer is not looked at, and may be NULL. A part that is written must not overlap
+ * another. No call writes anything but what its 'Writes' line says, and where the number is not 0, none
+ * writes at all.
  *
  * No call allocates memory, or remembers anything for the next one. Threads may call at once, if none
  * writes what another is lent. A call takes less than 64 KB of stack, and does not wipe it: after a
  * cut or a join, words of the secret stay there until something overwrites them.
- *
- * The numbers a call can give:
- *
- *    0  done
- *    1  the order is not lawful, or the desk's keeper number is outside 1..n
- *    2  the secret's length is outside 1..952
- *    3  the stamp is 0
- *    4  a lent part has the wrong length
- *    5  a random word is above 256
- *    6  fewer than t+f+1 usable letters; for the pick, no group that large
- *    7  no polynomials match enough letters
- *    8  they match, but some constant is 256
- *    9  a word in a block is above 256
- *   10  a check word is wrong
- *   11  word 0 or 1 of a block is wrong
- *   12  another header word is wrong
- *   13  bytes or share words past the end aren't zero
- *   14  older than the letter held
- *   15  the same stamp as the letter held, other bytes
- *   16  a good letter, but not of this desk's order and keeper
- *   17  nothing good is held
- *
- * Where several apply the smallest is given, save in a letter and at the desk, which judge in an
- * order of their own. No refusal changes lent memory. Unless stated, every other number in a
- * refusal's result is 0.
- *
- * An order is t, f, n: t is 1..7, f is at most t, n lies between t+4f+1 and 16. A slot is
- * 2048 bytes. A tray is n slots, slot x belonging to keeper x, which is the x-th, counted from 1.
  */
 #ifndef CSALGODES_H
 #define CSALGODES_H
@@ -52,6 +45,50 @@
 #ifdef __cplusplus
 extern "C" {
 #endif
+
+/*
+ * The version. While the major number is 0, each minor one may change the calls: the shared library's
+ * name has both, so that a program runs with the calls that it was built for or does not start.
+ */
+#define CSALGODES_VERSION_MAJOR 0
+#define CSALGODES_VERSION_MINOR 1
+#define CSALGODES_VERSION_PATCH 0
+
+/* The sizes, for arrays that hold whatever is lawful. */
+enum {
+    CS_LONGEST_SECRET = 952, /* bytes */
+    CS_SLOT = 2048,          /* bytes of a slot, and so of a letter */
+    CS_GREATEST_T = 7,
+    CS_MOST_KEEPERS = 16,
+    CS_LARGEST_TRAY = CS_MOST_KEEPERS * CS_SLOT,                 /* bytes; a tray has n * CS_SLOT */
+    CS_MOST_RANDOM_WORDS = CS_GREATEST_T * CS_LONGEST_SECRET,    /* a cut takes t for each byte */
+    CS_GREATEST_WORD = 256   /* of random words, and of any other word */
+};
+
+/*
+ * The numbers that a call can give. Where several apply the smallest is given, save in a letter and at the
+ * desk, which judge in an order of their own. Unless stated, every other number in a refusal's result is 0.
+ */
+enum {
+    CS_DONE = 0,
+    CS_ORDER_UNLAWFUL = 1,      /* the order is not lawful, or the desk's keeper number is outside 1..n */
+    CS_LENGTH_OUT_OF_RANGE = 2, /* the secret's length is outside 1..952 */
+    CS_STAMP_ZERO = 3,          /* the stamp is 0 */
+    CS_WRONG_SIZE = 4,          /* a lent part has the wrong length */
+    CS_RANDOM_TOO_GREAT = 5,    /* a random word is above 256 */
+    CS_TOO_FEW = 6,             /* fewer than t+f+1 usable letters; for the pick, no group that large */
+    CS_NO_AGREEMENT = 7,        /* no polynomials match enough letters */
+    CS_NOT_BYTES = 8,           /* they match, but some constant is 256, which is no byte */
+    CS_WORD_TOO_GREAT = 9,      /* a word in a block is above 256 */
+    CS_CHECK_WRONG = 10,        /* a check word is wrong: the block is damaged */
+    CS_MARK_WRONG = 11,         /* word 0 or 1 of a block is wrong: no letter, or none of this format */
+    CS_HEADER_WRONG = 12,       /* another header word is wrong */
+    CS_END_NOT_ZERO = 13,       /* bytes or share words past the end aren't zero */
+    CS_OLDER = 14,              /* older than the letter held */
+    CS_SAME_STAMP = 15,         /* the same stamp as the letter held, other bytes */
+    CS_OTHER_DESK = 16,         /* a good letter, but not of this desk's order and keeper */
+    CS_NOTHING_HELD = 17        /* nothing good is held */
+};
 
 /* What a slot reads as. */
 typedef struct {
@@ -67,7 +104,8 @@ typedef struct {
  * Reads a slot. A good letter answers 0 and its header's numbers; any other slot its number, and
  * its place where a block is at fault.
  *
- * Lent: the slot, read only. Any length may be lent, and any but 2048 is 4.
+ * Lent: the slot. Any length may be lent, and any but 2048 is 4.
+ * Writes: nothing.
  */
 cs_read_result cs_read(const uint8_t *slot, size_t slot_length);
 
@@ -76,10 +114,9 @@ cs_read_result cs_read(const uint8_t *slot, size_t slot_length);
  * coefficients of x, x^2, .. x^t are random words i*t .. i*t+t-1; each is 0..256, and each value must be
  * as likely as any other. Random words are used once.
  *
- * Lent: the secret, 1..952 bytes, and exactly t random words a byte, both read only; the tray,
- * n*2048 bytes, written whole where the answer is 0.
- *
- * Answers 0, 1, 2, 3, 4 or 5.
+ * Lent: the secret, 1..952 bytes; exactly t random words for each of them; the tray, n*2048 bytes.
+ * Answers: 0, 1, 2, 3, 4 or 5.
+ * Writes: the whole tray where the answer is 0, else nothing.
  */
 uint32_t cs_cut(uint32_t t, uint32_t f, uint32_t n, uint32_t stamp,
                 const uint8_t *secret, size_t secret_length,
@@ -96,12 +133,12 @@ typedef struct {
 
 /*
  * Joins the letters of a tray that read as good and have this order, stamp and length and their own
- * slot's keeper number. If the tray was cut, at most f usable letters differ from the cut and any
- * others are made unusable, the answer is never a wrong secret, and it is the right one if t+2f+1
+ * slot's keeper number: the usable ones. If the tray was cut, at most f usable letters differ from the cut
+ * and any others are made unusable, the answer is never a wrong secret, and it is the right one if t+2f+1
  * letters are usable or t+f+1 of the usable ones are unaltered.
  *
- * Lent: the tray, n*2048 bytes, read only; room for exactly length bytes, to which the secret is
- * written where the answer is 0.
+ * Lent: the tray, n*2048 bytes; room for exactly length bytes.
+ * Writes: the secret to all of the room where the number is 0, else nothing.
  */
 cs_join_result cs_join(uint32_t t, uint32_t f, uint32_t n, uint32_t stamp, uint32_t length,
                        const uint8_t *tray, size_t tray_length,
@@ -114,12 +151,12 @@ typedef struct {
 } cs_store_result;
 
 /*
- * Offers a letter to the desk of this order and keeper. The letter is judged in this order: 1, 4, its
- * own 9..13, 16, 14, 15. Where the answer is 0 the desk then holds it; the letter that it held
- * already is no change. A held slot that isn't good for this desk counts as empty.
+ * Offers a letter to the desk of this order and keeper. It is judged in this order: 1, 4, the letter's
+ * own 9..13, 16, 14, 15. Where the number is 0 the desk then holds it; the letter that it held already is
+ * no change. A held slot that isn't good for this desk counts as empty.
  *
- * Lent: the held slot, 2048 bytes, all zeros for a new desk, replaced whole or not at all; the
- * letter, 2048 bytes, read only.
+ * Lent: the held slot, 2048 bytes; the letter, 2048 bytes.
+ * Writes: the letter to all of the held slot where the number is 0, else nothing.
  */
 cs_store_result cs_store(uint32_t t, uint32_t f, uint32_t n, uint32_t keeper,
                          uint8_t *held, size_t held_length,
@@ -129,7 +166,8 @@ cs_store_result cs_store(uint32_t t, uint32_t f, uint32_t n, uint32_t keeper,
  * Whether the desk has a letter to hand back. 0: the held slot is that letter. Else nothing is to be
  * handed back, and the number is 1, 4 or 17, judged in that order.
  *
- * Lent: the held slot, 2048 bytes, read only.
+ * Lent: the held slot, 2048 bytes.
+ * Writes: nothing.
  */
 uint32_t cs_fetch(uint32_t t, uint32_t f, uint32_t n, uint32_t keeper,
                   const uint8_t *held, size_t held_length);
@@ -146,7 +184,8 @@ typedef struct {
  * grouped by stamp and length, the group of at least t+f+1 with the greatest stamp, and of those the
  * greatest length.
  *
- * Lent: the tray, n*2048 bytes, read only.
+ * Lent: the tray, n*2048 bytes.
+ * Writes: nothing.
  */
 cs_pick_result cs_pick(uint32_t t, uint32_t f, uint32_t n,
                        const uint8_t *tray, size_t tray_length);
