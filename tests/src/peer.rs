@@ -27,6 +27,10 @@ const TARGET: &str = concat!(env!("CARGO_MANIFEST_DIR"), "/../target");
 /// Starts an x86-64 program on this machine.
 const START: &str = concat!(env!("CARGO_MANIFEST_DIR"), "/../library/start");
 
+/// Names the file of a shared library. The peer is then the one that loads it, and not the one that has the
+/// static library in it.
+const LOADED: &str = "CSALGODES_LOADED";
+
 /// A command that runs one of the project's x86-64 programs on this machine.
 pub fn program(path: &str) -> Command {
     let mut command = Command::new(START);
@@ -49,14 +53,20 @@ struct Reply {
 
 impl Peer {
     pub fn start() -> Peer {
-        let mut process = program("outside/peer")
+        let loaded = std::env::var(LOADED).ok();
+        let path = if loaded.is_some() { "outside/peer.loading" } else { "outside/peer" };
+        let mut process = program(path)
             .stdin(Stdio::piped())
             .stdout(Stdio::piped())
             .spawn()
             .expect("library/start is there");
         let requests = process.stdin.take();
         let replies = BufReader::new(process.stdout.take().expect("it was asked for"));
-        Peer { process, requests, replies, null: false }
+        let mut peer = Peer { process, requests, replies, null: false };
+        if let Some(file) = loaded {
+            peer.has_loaded(&file);
+        }
+        peer
     }
 
     /// One that lends NULL for what is empty, as C programs do.
@@ -64,6 +74,15 @@ impl Peer {
         let mut peer = Peer::start();
         peer.null = true;
         peer
+    }
+
+    /// Sees that the process has that very file in its memory. It has answered a call by then, so it
+    /// has loaded what it will.
+    fn has_loaded(&mut self, file: &str) {
+        self.read(&[]);
+        let memory = std::fs::read_to_string(format!("/proc/{}/maps", self.process.id()))
+            .expect("the peer runs");
+        assert!(memory.lines().any(|line| line.ends_with(file)), "the peer has not loaded {file}");
     }
 
     fn call(&mut self, call: u32, numbers: &[u32], lent: &[&[u8]]) -> Reply {
