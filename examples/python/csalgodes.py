@@ -33,7 +33,8 @@ _read = [c_char_p, c_size_t]
 _written = [POINTER(c_uint8), c_size_t]
 _words = [POINTER(c_uint16), c_size_t]
 
-_library = CDLL("libcsalgodes.so")
+# by the name that says which calls it has: one with other calls has another
+_library = CDLL("libcsalgodes.so.0.1")
 _library.cs_cut.argtypes = [c_uint32] * 4 + _read + _words + _written
 _library.cs_cut.restype = c_uint32
 _library.cs_join.argtypes = [c_uint32] * 5 + _read + _written
