@@ -27,8 +27,8 @@ const TARGET: &str = concat!(env!("CARGO_MANIFEST_DIR"), "/../target");
 /// Starts an x86-64 program on this machine.
 const START: &str = concat!(env!("CARGO_MANIFEST_DIR"), "/../library/start");
 
-/// Names the file of a shared library. The peer is then the one that loads it, and not the one that has the
-/// static library in it.
+/// Names the file of a shared library. The peer is then the one that loads it, not the one that has
+/// the static library in it.
 const LOADED: &str = "CSALGODES_LOADED";
 
 /// A command that runs one of the project's x86-64 programs on this machine.
