@@ -15,6 +15,7 @@ use Rattle.join.specs.declared.Joined.{Joined}
 use Rattle.join.specs.Join.{Outcome, few, apart, wide, joined, JoinDone, refused, judged}
 use Rattle.desk.specs.declared.Stored.{Stored}
 use Rattle.desk.specs.Desk.{storeNumber, storeLeaves, StoreDone}
+use Rattle.report_text.specs.declared.answer.Answered.{Answered}
 use Rattle.report_text.specs.Report.{Reported}
 
 -- the cut's tray
@@ -42,5 +43,5 @@ unfolding storeLeaves
 store-unchanged D wrong = D .leaves ∙ rw (ne-eqb _ 0 (λ e. wrong (D .number ∙ e)))
 
 -- The report always writes, a refusal too: its own rule is that nothing past what it writes is changed.
-pub report-unchanged : {input before after : List ℕ} {count : ℕ} → Reported input before count after → drop count after ≡ drop count before
+pub report-unchanged : {input before after : List ℕ} {answered : Answered} → Reported input before answered after → drop (answered .count) after ≡ drop (answered .count) before
 report-unchanged {before = before} R = rw (R .written, R .counted) (drop-at (R .bytes) (drop (length (R .bytes)) before) (length (R .bytes)) refl)
