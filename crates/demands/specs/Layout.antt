@@ -20,10 +20,11 @@ use Rattle.format.specs.Letter.{blocksFor, blockShares, blockBytes, letterBytes
 use Rattle.tray.specs.Tray.{headFor}
 use Rattle.cut.specs.Cut.{shareWords, letterOf}
 
--- t=3, f=2, n=14; the stamp's bytes are 10, 11, 12, 13
+-- t=3, f=2, n=14
 abbrev pub order : Order
 order = record { t = 3; f = 2; n = 14 }
 
+-- the stamp whose bytes are 10, 11, 12, 13
 abbrev pub stamp : ℕ
 stamp = 168496141
 
@@ -39,6 +40,7 @@ words = wordsOf (take 512 letter)
 abbrev pub weight : ℕ → ℕ
 weight i = weightedCheck (replicate i 0 ++ (1 ∷ []))
 
+-- "A block is 512 bytes": the page's table, of that letter
 pub record Layout : Type 0 where
   pub lawful : lawfulOrder order ≡ true
   -- words 0..15: mark, edition, t, f, n, keeper, the stamp's four bytes, the length's two, the place, three zeros

@@ -40,6 +40,7 @@ pub record GivesBack (order : Order) (stamp : ℕ) (secret cut tray : List ℕ) 
 
 module _ {O : Ops} (F : LetterField O) {order : Order} {stamp : ℕ} {secret random tray : List ℕ} (C : OneCut O order stamp secret random)
     (A : AtMostAltered order stamp (length secret) (cutTray O order stamp secret random) tray) where
+  -- the tray of that one cut
   abbrev cut : List ℕ
   cut = cutTray O order stamp secret random
 

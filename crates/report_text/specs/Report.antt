@@ -24,6 +24,7 @@ use Rattle.report_text.specs.declared.answer.Answered.{Answered}
 abbrev pub standing : ℕ → Bool → Bool → Standing
 standing number isUsable matches = cond isUsable (cond (eqb number 7) Present (cond matches Agrees Differs)) Absent
 
+-- a line for each keeper, 1..n
 abbrev pub keeperLines : Order → List ℕ → ℕ → ℕ → Joined → List ℕ
 keeperLines order tray stamp l result =
     pieces (λ k. keeperLine (suc k) (wordOf (standing (result .number) (usable order stamp l tray (suc k)) (member (result .set) (suc k))))) (order .n)
@@ -40,13 +41,15 @@ joinedLines order tray stamp l result =
 abbrev pub told : ℕ → Bool
 told number = eqb number 0 || (eqb number 7 || eqb number 8)
 
+-- the lines of what was joined
 unfoldable pub lines : Order → List ℕ → ℕ → ℕ → Joined → List ℕ
 lines order tray stamp l result = cond (told (result .number)) (joinedLines order tray stamp l result) (answerLine (result .number))
 
--- "three bytes t, f, n, then the tray"
+-- "three bytes t, f, n"
 abbrev pub orderIn : List ℕ → Order
 orderIn input = record { t = getD input 0 0; f = getD input 1 0; n = getD input 2 0 }
 
+-- "then the tray"
 abbrev pub trayIn : List ℕ → List ℕ
 trayIn input = drop 3 input
 
