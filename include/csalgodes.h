@@ -54,6 +54,10 @@ extern "C" {
 #define CSALGODES_VERSION_MINOR 1
 #define CSALGODES_VERSION_PATCH 0
 
+/* As one number, to be compared: 0.1.0 is 100, and 1.2.3 would be 10203. */
+#define CSALGODES_VERSION \
+    (CSALGODES_VERSION_MAJOR * 10000 + CSALGODES_VERSION_MINOR * 100 + CSALGODES_VERSION_PATCH)
+
 /* The sizes, for arrays that hold whatever is lawful. */
 enum {
     CS_LONGEST_SECRET = 952, /* bytes */
