@@ -18,6 +18,7 @@ cut-left : {order : Order} {stamp number : ℕ} {secret random tray left : List 
     → cutNumber order stamp secret random tray ≡ 0 → left ≡ cutTray mod257 order stamp secret random
 cut-left D e = D .leaves ∙ rw e
 
+-- a cut of bytes that answers 0 is one cut, and leaves its tray
 pub zero-one-cut : {order : Order} {stamp : ℕ} {secret random tray left : List ℕ} → CutDone mod257 order stamp secret random tray 0 left → Below 256 secret
     → OneCut mod257 order stamp secret random × (left ≡ cutTray mod257 order stamp secret random)
 zero-one-cut {order} {stamp} {secret} {random} {tray} D bytes =
@@ -34,6 +35,7 @@ zero-one-cut {order} {stamp} {secret} {random} {tray} D bytes =
       cut-left D (sym (D .answers)),
     )
 
+-- one cut, with a tray to fill, answers 0 and leaves its tray
 pub one-cut-zero : {order : Order} {stamp number : ℕ} {secret random tray left : List ℕ} → OneCut mod257 order stamp secret random → length tray ≡ 2048 * order .n
     → CutDone mod257 order stamp secret random tray number left → (number ≡ 0) × (left ≡ cutTray mod257 order stamp secret random)
 one-cut-zero {order} {stamp} {secret = secret} {random} {tray} C s D =

@@ -23,7 +23,6 @@ pub cut-unchanged : {O : Ops} {order : Order} {stamp number : ℕ} {secret rando
     → CutDone O order stamp secret random tray number left → (number ≡ 0 → ⊥) → left ≡ tray
 cut-unchanged D wrong = D .leaves ∙ rw (ne-eqb _ 0 (λ e. wrong (D .answers ∙ e)))
 
--- the join's room
 outcome-unchanged : {O : Ops} {t f n l : ℕ} {us : ℕ → Bool} {word : ℕ → ℕ → ℕ} {room left : List ℕ} {result : Joined}
     → Outcome O t f n us word l room result left → (result .number ≡ 0 → ⊥) → left ≡ room
 outcome-unchanged (few h) wrong = refl
@@ -31,6 +30,7 @@ outcome-unchanged (apart h none) wrong = refl
 outcome-unchanged (wide ps R e) wrong = refl
 outcome-unchanged (joined ps R e) wrong = absurd (wrong refl)
 
+-- the join's room
 pub join-unchanged : {O : Ops} {order : Order} {stamp l : ℕ} {tray room left : List ℕ} {result : Joined}
     → JoinDone O order stamp l tray room result left → (result .number ≡ 0 → ⊥) → left ≡ room
 join-unchanged (refused h) wrong = refl

@@ -91,6 +91,7 @@ module _ (order : Order) (keeper : ℕ) where
         (subst (λ (slot : List ℕ). After slot offers (deskAfter order keeper next offers)) (leaves-newer order keeper held offer right size)
         (after offers next (leaves-size order keeper held offer ∙ size)))
 
+    -- from any slot that counts as empty
     pub desk-holds : (empty : List ℕ) → length empty ≡ 2048 → stampHeld order keeper empty ≡ 0 → (offers : List (List ℕ))
         → Holds order keeper empty offers (deskAfter order keeper empty offers)
     desk-holds empty size none offers =
