@@ -1,6 +1,8 @@
-//! The proved library's cut and join, with the second program's types, so that both are called alike.
+//! The proved library's calls, with the second program's types, so that both are called alike: as it is
+//! compiled for any processor, and on x86-64 also as it is compiled for x86-64-v3.
 
 use second::join::Joined;
+use second::letter::{Fault, Head};
 use second::order::Order;
 
 #[repr(C)]
@@ -11,59 +13,121 @@ struct JoinResult {
     set: u32,
 }
 
-extern "C" {
-    fn cs_cut(
-        t: u32,
-        f: u32,
-        n: u32,
-        stamp: u32,
-        secret: *const u8,
-        secret_length: usize,
-        random: *const u16,
-        random_count: usize,
-        tray: *mut u8,
-        tray_length: usize,
-    ) -> u32;
-
-    fn cs_join(
-        t: u32,
-        f: u32,
-        n: u32,
-        stamp: u32,
-        length: u32,
-        tray: *const u8,
-        tray_length: usize,
-        room: *mut u8,
-        room_length: usize,
-    ) -> JoinResult;
+#[repr(C)]
+struct ReadResult {
+    number: u32,
+    place: u32,
+    t: u32,
+    f: u32,
+    n: u32,
+    keeper: u32,
+    stamp: u32,
+    length: u32,
 }
 
-pub fn cut(order: Order, stamp: u32, secret: &[u8], random: &[u16], tray: &mut [u8]) -> u32 {
-    let Order { t, f, n } = order;
-    let (secret_length, random_count, tray_length) = (secret.len(), random.len(), tray.len());
-    // SAFETY: each pointer comes with the number of elements behind it, and none overlap.
-    unsafe {
-        cs_cut(
-            t,
-            f,
-            n,
-            stamp,
-            secret.as_ptr(),
-            secret_length,
-            random.as_ptr(),
-            random_count,
-            tray.as_mut_ptr(),
-            tray_length,
-        )
+impl From<JoinResult> for Joined {
+    fn from(result: JoinResult) -> Joined {
+        let JoinResult { number, usable, need, set } = result;
+        Joined { number, usable, need, set }
     }
 }
 
-pub fn join(order: Order, stamp: u32, length: u32, tray: &[u8], room: &mut [u8]) -> Joined {
-    let Order { t, f, n } = order;
-    let (tray_length, room_length) = (tray.len(), room.len());
-    // SAFETY: each pointer comes with the number of elements behind it, and none overlap.
-    let JoinResult { number, usable, need, set } = unsafe {
-        cs_join(t, f, n, stamp, length, tray.as_ptr(), tray_length, room.as_mut_ptr(), room_length)
-    };
-    Joined { number, usable, need, set }
+impl From<ReadResult> for Result<Head, Fault> {
+    fn from(result: ReadResult) -> Result<Head, Fault> {
+        let ReadResult { number, place, t, f, n, keeper, stamp, length } = result;
+        match number {
+            0 => Ok(Head { order: Order::new(t, f, n), keeper, stamp, length }),
+            _ => Err(Fault { number, place }),
+        }
+    }
 }
+
+macro_rules! calls {
+    ($library:ident, $cut:literal, $join:literal, $read:literal) => {
+        pub mod $library {
+            use super::*;
+
+            extern "C" {
+                #[link_name = $cut]
+                fn cs_cut(
+                    t: u32,
+                    f: u32,
+                    n: u32,
+                    stamp: u32,
+                    secret: *const u8,
+                    secret_length: usize,
+                    random: *const u16,
+                    random_count: usize,
+                    tray: *mut u8,
+                    tray_length: usize,
+                ) -> u32;
+
+                #[link_name = $join]
+                fn cs_join(
+                    t: u32,
+                    f: u32,
+                    n: u32,
+                    stamp: u32,
+                    length: u32,
+                    tray: *const u8,
+                    tray_length: usize,
+                    room: *mut u8,
+                    room_length: usize,
+                ) -> JoinResult;
+
+                #[link_name = $read]
+                fn cs_read(slot: *const u8, slot_length: usize) -> ReadResult;
+            }
+
+            pub fn cut(
+                Order { t, f, n }: Order,
+                stamp: u32,
+                secret: &[u8],
+                random: &[u16],
+                tray: &mut [u8],
+            ) -> u32 {
+                let (secret, secret_length) = (secret.as_ptr(), secret.len());
+                let (random, random_count) = (random.as_ptr(), random.len());
+                let (tray, tray_length) = (tray.as_mut_ptr(), tray.len());
+                // SAFETY: each pointer comes with the number of elements behind it, and none overlap.
+                unsafe {
+                    cs_cut(
+                        t,
+                        f,
+                        n,
+                        stamp,
+                        secret,
+                        secret_length,
+                        random,
+                        random_count,
+                        tray,
+                        tray_length,
+                    )
+                }
+            }
+
+            pub fn join(
+                Order { t, f, n }: Order,
+                stamp: u32,
+                length: u32,
+                tray: &[u8],
+                room: &mut [u8],
+            ) -> Joined {
+                let (tray, tray_length) = (tray.as_ptr(), tray.len());
+                let (room, room_length) = (room.as_mut_ptr(), room.len());
+                // SAFETY: as in the cut.
+                unsafe { cs_join(t, f, n, stamp, length, tray, tray_length, room, room_length) }
+                    .into()
+            }
+
+            pub fn read(slot: &[u8]) -> Result<Head, Fault> {
+                // SAFETY: as in the cut.
+                unsafe { cs_read(slot.as_ptr(), slot.len()) }.into()
+            }
+        }
+    };
+}
+
+calls!(plain, "cs_cut", "cs_join", "cs_read");
+#[cfg(target_arch = "x86_64")]
+calls!(v3, "v3_cs_cut", "v3_cs_join", "v3_cs_read");

@@ -1,10 +1,11 @@
-//! The limits we hold ourselves to.
+//! The limits we hold ourselves to. They are of the library as compiled for any processor of the machine's
+//! kind, beside the others compiled alike.
 
 use crate::gfshare::LENT;
 use crate::numbers::{ratio, time};
+use crate::programs::SECOND;
 use crate::race::Race;
 use crate::races::Races;
-use crate::sides::SECOND;
 
 pub struct Limit {
     pub says: String,
@@ -23,7 +24,7 @@ pub fn limits(races: &Races) -> Vec<Limit> {
 }
 
 fn at_most(times: f64, work: &str, race: &Race) -> Limit {
-    let found = race.ratio(race.of(SECOND));
+    let found = race.library().times(race.of(SECOND));
     let says = format!("{work}: at most {times} times the second program");
     Limit { says, measured: format!("{} times", ratio(found)), met: found <= times }
 }

@@ -1,37 +1,79 @@
-//! Times the library's cut and join beside the second program's best loops, gfshare and ssss. Reads the
-//! facts about this run, writes the page and its picture, and fails if a limit is not met.
+//! Times the library's cut, join and reading beside the second program's best loops, gfshare and ssss. Reads
+//! the facts about this run, and writes the machine's own section of the page and its picture. Ends with 1
+//! if a limit is not met, and with another number than 0 if nothing was written.
 
 mod case;
+mod docs;
 mod gfshare;
+mod kinds;
 mod library;
 mod limits;
 mod numbers;
 mod page;
 mod picture;
+mod programs;
 mod race;
 mod races;
 mod sides;
 mod ssss;
+#[cfg(target_arch = "x86_64")]
+mod v3;
 
-use std::fs;
 use std::io::{read_to_string, stdin};
 use std::process::ExitCode;
 
-const DOCS: &str = concat!(env!("CARGO_MANIFEST_DIR"), "/../docs");
+use kinds::{OTHER, OWN};
+use races::Races;
+
+const PAGE: &str = "BENCHMARK.md";
 
 fn main() -> ExitCode {
-    let facts = read_to_string(stdin()).expect("bench/run tells the facts");
-    println!("{facts}");
-    let races = races::Races::run();
-    let limits = limits::limits(&races);
-    println!("\n{}\n{}", page::times(&races), page::limits(&limits));
-
-    let start = numbers::time(ssss::start());
-    write("BENCHMARK.md", &page::page(&facts, &races, &limits, &start));
-    write("benchmark.svg", &picture::picture(&facts, &races));
-    ExitCode::from(u8::from(limits.iter().any(|limit| !limit.met)))
+    match run() {
+        Ok(met) => ExitCode::from(u8::from(!met)),
+        Err(wrong) => {
+            eprintln!("bench: {wrong}");
+            ExitCode::from(2)
+        }
+    }
 }
 
-fn write(name: &str, text: &str) {
-    fs::write(format!("{DOCS}/{name}"), text).expect("docs/ can be written");
+/// Whether every limit is met.
+fn run() -> Result<bool, String> {
+    let other = other_section()?;
+    let told = read_to_string(stdin()).map_err(|error| format!("no facts: {error}"))?;
+    println!("{told}");
+    let races = Races::run();
+    let limits = limits::limits(&races);
+    println!("{}\n{}", page::times(&races), page::limits(&limits));
+
+    let facts = told + &found(&races);
+    let section = page::section(&facts, &races, &limits);
+    docs::put(&[
+        (OWN.picture, picture::picture(&facts, &races)),
+        (PAGE, page::page(&section, &other)),
+    ])?;
+    Ok(limits.iter().all(|limit| limit.met))
+}
+
+/// The section of the other kind of machine, as the page has it.
+fn other_section() -> Result<String, String> {
+    let Some(page) = docs::read(PAGE)? else {
+        return Ok("Not measured yet.".to_string());
+    };
+    let section = page::section_of(&page, OTHER).map(str::to_string);
+    section.ok_or_else(|| {
+        let heading = OTHER.name;
+        format!("docs/{PAGE} should have one section '## {heading}', to be kept, and has none or several")
+    })
+}
+
+/// The facts that only this program can tell.
+fn found(races: &Races) -> String {
+    let start = numbers::time(ssss::start());
+    let facts = format!("- To start `ssss-split` and have it do nothing: {start}\n");
+    if cfg!(target_arch = "x86_64") && !races.have_v3() {
+        facts + "- Left out: the code for x86-64-v3, which this processor cannot run\n"
+    } else {
+        facts
+    }
 }

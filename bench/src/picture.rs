@@ -6,7 +6,7 @@ use crate::races::Races;
 
 const WIDTH: usize = 860;
 const MARGIN: usize = 28;
-const HEADING: usize = 84;
+const HEADING: usize = 104;
 const TITLE: usize = 30;
 const ROW: usize = 26;
 const BAR: usize = 18;
@@ -39,11 +39,19 @@ pub fn picture(facts: &str, races: &Races) -> String {
         groups += &group(race, top);
         top += TITLE + race.bests.len() * ROW + GROUP_GAP;
     }
+    framed(top, &(heading(facts, races) + &groups))
+}
+
+fn heading(facts: &str, races: &Races) -> String {
     let machine = facts.lines().find_map(|line| line.strip_prefix("- Machine: ")).unwrap_or("?");
-    let note = format!("Best times on {machine}. Each group has a scale of its own.");
-    let heading = text("title", MARGIN, 42, "A secret of 952 bytes: the shorter bar is faster")
-        + &text("note", MARGIN, 66, &note);
-    framed(top, &(heading + &groups))
+    let v3 = if races.have_v3() {
+        " v3: compiled for x86-64-v3, processors that have AVX2."
+    } else {
+        ""
+    };
+    text("title", MARGIN, 42, "A secret of 952 bytes: the shorter bar is faster")
+        + &text("note", MARGIN, 66, &format!("Best times on {machine}."))
+        + &text("note", MARGIN, 86, &format!("Each group has a scale of its own.{v3}"))
 }
 
 fn framed(height: usize, inside: &str) -> String {
@@ -71,7 +79,7 @@ fn group(race: &Race, top: usize) -> String {
         let y = top + TITLE + i * ROW;
         let part = best.time / longest;
         let length = (part.min(1.0) * BAR_LONGEST as f64).round() as usize;
-        let class = if i == 0 { "own" } else { "other" };
+        let class = if best.is_library() { "own" } else { "other" };
         drawn += &text("by", MARGIN, y + 14, best.name);
         drawn += &bar(class, y, length, part > 1.0);
         drawn += &text("time", BAR_START + length + 8, y + 14, &time(best.time));

@@ -3,6 +3,8 @@
 use std::hint::black_box;
 use std::time::Instant;
 
+use crate::programs::{LIBRARY, LIBRARY_V3};
+
 /// Many short slices, so that a slow spell of the machine hits every side.
 const SLICES: usize = 60;
 const SLICE: f64 = 0.004;
@@ -11,7 +13,7 @@ const SLICE: f64 = 0.004;
 pub trait Side {
     fn name(&self) -> &'static str;
 
-    /// The bytes of the secret worked on.
+    /// The bytes worked on: of the secret, or of the letters where these are read.
     fn bytes(&self) -> usize;
 
     /// Before a slice, off the clock: spoils what the last one left.
@@ -31,7 +33,8 @@ pub struct Best {
     pub time: f64,
 }
 
-/// One piece of work, and the best time of each side; the first is the library.
+/// One piece of work, and the best time of each side. The first is the library, compiled for any processor
+/// of the machine's kind.
 pub struct Race {
     pub work: &'static str,
     pub bests: Vec<Best>,
@@ -57,19 +60,28 @@ impl Race {
         &self.bests[0]
     }
 
-    pub fn of(&self, name: &str) -> &Best {
-        self.bests.iter().find(|best| best.name == name).expect("a side of this race")
+    /// The library as it is compiled for this processor and that.
+    pub fn libraries(&self) -> impl Iterator<Item = &Best> {
+        self.bests.iter().filter(|best| best.is_library())
     }
 
-    /// The library's time for a byte, in those of another side.
-    pub fn ratio(&self, other: &Best) -> f64 {
-        self.library().per_byte() / other.per_byte()
+    pub fn of(&self, name: &str) -> &Best {
+        self.bests.iter().find(|best| best.name == name).expect("a side of this race")
     }
 }
 
 impl Best {
     pub fn per_byte(&self) -> f64 {
         self.time / self.bytes as f64
+    }
+
+    /// The time for a byte, in those of another side.
+    pub fn times(&self, other: &Best) -> f64 {
+        self.per_byte() / other.per_byte()
+    }
+
+    pub fn is_library(&self) -> bool {
+        [LIBRARY, LIBRARY_V3].contains(&self.name)
     }
 }
 

@@ -1,11 +1,12 @@
-//! The four races.
+//! The races.
 
 use second::order::Order;
 use second::random::Random;
 
 use crate::case::Case;
+use crate::programs::LIBRARY_V3;
 use crate::race::Race;
-use crate::sides::{cuts, joins};
+use crate::sides::{cuts, joins, reads};
 use crate::{gfshare, ssss};
 
 pub struct Races {
@@ -13,6 +14,8 @@ pub struct Races {
     pub good: Race,
     pub liars: Race,
     pub too_many: Race,
+    /// Where a program can be called to read.
+    pub reading: Option<Race>,
 }
 
 impl Races {
@@ -28,15 +31,23 @@ impl Races {
         cuts.extend([gfshare::split(&good), gfshare::split_and_draw(&good), ssss::split(&good)]);
         let mut good_joins = joins(&good);
         good_joins.extend([gfshare::combine(&good), ssss::combine(&good)]);
+        let reads = reads(&good);
         Races {
             cut: Race::run("cut, t=3, f=3, n=16", cuts),
             good: Race::run("join, t=3, f=3, n=16, all letters good", good_joins),
             liars: Race::run("join, t=3, f=3, n=16, three liars", joins(&liars)),
             too_many: Race::run("join, t=7, f=2, n=16, three liars, answer 7", joins(&too_many)),
+            reading: (!reads.is_empty())
+                .then(|| Race::run("reading 16 letters, t=3, f=3, n=16", reads)),
         }
     }
 
-    pub fn all(&self) -> [&Race; 4] {
-        [&self.cut, &self.good, &self.liars, &self.too_many]
+    /// Whether the library as compiled for x86-64-v3 took part.
+    pub fn have_v3(&self) -> bool {
+        self.cut.libraries().any(|best| best.name == LIBRARY_V3)
+    }
+
+    pub fn all(&self) -> impl Iterator<Item = &Race> {
+        [&self.cut, &self.good, &self.liars, &self.too_many].into_iter().chain(&self.reading)
     }
 }

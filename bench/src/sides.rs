@@ -1,20 +1,14 @@
-//! The cut and the join as sides, by the library and by the second program's best loops, called alike.
+//! The cut, the join and the reading of letters as sides, by programs that are called alike.
 
 use std::hint::black_box;
 
-use second::fast;
 use second::join::Joined;
-use second::order::Order;
+use second::letter::{Fault, Head, Letter};
+use second::order::SLOT;
 
 use crate::case::{Case, STAMP};
-use crate::library;
+use crate::programs::{programs, CutCall, JoinCall, Program, ReadCall};
 use crate::race::Side;
-
-pub const LIBRARY: &str = "Csalgodes";
-pub const SECOND: &str = "second program";
-
-type CutCall = fn(Order, u32, &[u8], &[u16], &mut [u8]) -> u32;
-type JoinCall = fn(Order, u32, u32, &[u8], &mut [u8]) -> Joined;
 
 struct Cut<'a> {
     name: &'static str,
@@ -25,10 +19,10 @@ struct Cut<'a> {
 }
 
 pub fn cuts(case: &Case) -> Vec<Box<dyn Side + '_>> {
-    let side = |name, call| -> Box<dyn Side + '_> {
+    let side = |Program { name, cut: call, .. }| -> Box<dyn Side + '_> {
         Box::new(Cut { name, call, case, number: 1, tray: case.tray.clone() })
     };
-    vec![side(LIBRARY, library::cut as CutCall), side(SECOND, fast::cut)]
+    programs().into_iter().map(side).collect()
 }
 
 impl Side for Cut<'_> {
@@ -64,10 +58,10 @@ struct Join<'a> {
 }
 
 pub fn joins(case: &Case) -> Vec<Box<dyn Side + '_>> {
-    let side = |name, call| -> Box<dyn Side + '_> {
+    let side = |Program { name, join: call, .. }| -> Box<dyn Side + '_> {
         Box::new(Join { name, call, case, joined: Joined::default(), room: case.room.clone() })
     };
-    vec![side(LIBRARY, library::join as JoinCall), side(SECOND, fast::join)]
+    programs().into_iter().map(side).collect()
 }
 
 impl Side for Join<'_> {
@@ -92,5 +86,51 @@ impl Side for Join<'_> {
 
     fn right(&mut self) -> bool {
         self.joined == self.case.joined && self.room == self.case.room
+    }
+}
+
+/// Reads each slot of a tray.
+struct Read<'a> {
+    name: &'static str,
+    call: ReadCall,
+    tray: &'a [u8],
+    expected: Vec<Result<Head, Fault>>,
+    heads: Vec<Result<Head, Fault>>,
+}
+
+/// None where no program can be called to read.
+pub fn reads(case: &Case) -> Vec<Box<dyn Side + '_>> {
+    let tray = &case.tray;
+    let plainly = |slot| Letter::read(slot).map(|letter| letter.head);
+    let expected: Vec<_> = tray.chunks_exact(SLOT).map(plainly).collect();
+    let side = |Program { name, read, .. }| -> Option<Box<dyn Side + '_>> {
+        let (expected, heads) = (expected.clone(), expected.clone());
+        Some(Box::new(Read { name, call: read?, tray, expected, heads }))
+    };
+    programs().into_iter().filter_map(side).collect()
+}
+
+impl Side for Read<'_> {
+    fn name(&self) -> &'static str {
+        self.name
+    }
+
+    fn bytes(&self) -> usize {
+        self.tray.len()
+    }
+
+    fn prepare(&mut self) {
+        self.heads.fill(Err(Fault { number: 0, place: 0 }));
+    }
+
+    fn work(&mut self) {
+        let slots = black_box(self.tray).chunks_exact(SLOT);
+        for (slot, head) in slots.zip(black_box(&mut self.heads)) {
+            *head = (self.call)(slot);
+        }
+    }
+
+    fn right(&mut self) -> bool {
+        self.heads == self.expected
     }
 }

@@ -1,0 +1,41 @@
+//! Who does what the library does: the library and the second program, each as it is compiled for any
+//! processor of the machine's kind, and where the processor has x86-64-v3 as it is compiled for that.
+
+use second::fast;
+use second::join::Joined;
+use second::letter::{Fault, Head};
+use second::order::Order;
+
+use crate::library::plain;
+#[cfg(target_arch = "x86_64")]
+use crate::v3;
+
+pub const LIBRARY: &str = "Csalgodes";
+pub const LIBRARY_V3: &str = "Csalgodes for v3";
+pub const SECOND: &str = "second program";
+
+pub type CutCall = fn(Order, u32, &[u8], &[u16], &mut [u8]) -> u32;
+pub type JoinCall = fn(Order, u32, u32, &[u8], &mut [u8]) -> Joined;
+pub type ReadCall = fn(&[u8]) -> Result<Head, Fault>;
+
+pub struct Program {
+    pub name: &'static str,
+    pub cut: CutCall,
+    pub join: JoinCall,
+    /// The second program's best loops read no letter by itself.
+    pub read: Option<ReadCall>,
+}
+
+pub fn programs() -> Vec<Program> {
+    // elsewhere the module's cs_read hands its result over in x86-64's way, and must not be called
+    let read = cfg!(target_arch = "x86_64").then_some(plain::read as ReadCall);
+    let mut programs = vec![
+        Program { name: LIBRARY, cut: plain::cut, join: plain::join, read },
+        Program { name: SECOND, cut: fast::cut, join: fast::join, read: None },
+    ];
+    #[cfg(target_arch = "x86_64")]
+    programs.extend(v3::programs());
+    // by name: the library first, and each beside itself as compiled for v3
+    programs.sort_by_key(|program| program.name);
+    programs
+}
