@@ -10,8 +10,6 @@
 
 int strcmp(const char *one, const char *other);
 
-enum { SLOT = 2048, MOST_KEEPERS = 16, MOST_T = 7, MOST_LENGTH = 952 };
-
 /* What cannot be said is trouble with a file, too. */
 #define say(...)                                                                       \
     do {                                                                               \
@@ -26,10 +24,10 @@ typedef struct {
     uint32_t number, place;
 } answer;
 
-static uint8_t tray[MOST_KEEPERS * SLOT];
-static uint8_t slot[SLOT + 1], letter[SLOT + 1];
-static uint8_t secret[MOST_LENGTH + 1];
-static uint16_t random_words[MOST_T * MOST_LENGTH];
+static uint8_t tray[CS_LARGEST_TRAY];
+static uint8_t slot[CS_SLOT + 1], letter[CS_SLOT + 1];
+static uint8_t secret[CS_LONGEST_SECRET + 1];
+static uint16_t random_words[CS_MOST_RANDOM_WORDS];
 
 static uint32_t number_in(const char *word) {
     uint64_t number = 0;
@@ -47,7 +45,7 @@ static order order_in(char **word) {
 }
 
 /* More keepers than there can be are answered with 1 whatever the tray, so it holds no more. */
-static uint32_t slots_of(order o) { return o.n < MOST_KEEPERS ? o.n : MOST_KEEPERS; }
+static uint32_t slots_of(order o) { return o.n < CS_MOST_KEEPERS ? o.n : CS_MOST_KEEPERS; }
 
 static const char *slot_path(const char *folder, uint32_t keeper) {
     static char path[LONGEST_PATH];
@@ -59,14 +57,14 @@ static const char *slot_path(const char *folder, uint32_t keeper) {
 static size_t load_tray(order o, const char *folder) {
     for (uint32_t i = 0; i < slots_of(o); i++) {
         const char *path = slot_path(folder, i + 1);
-        if (load(path, slot, sizeof slot) != SLOT) stop(path, "is not a slot of 2048 bytes");
-        for (size_t k = 0; k < SLOT; k++) tray[i * SLOT + k] = slot[k];
+        if (load(path, slot, sizeof slot) != CS_SLOT) stop(path, "is not a slot of 2048 bytes");
+        for (size_t k = 0; k < CS_SLOT; k++) tray[i * CS_SLOT + k] = slot[k];
     }
-    return slots_of(o) * SLOT;
+    return slots_of(o) * CS_SLOT;
 }
 
 static void save_tray(order o, const char *folder) {
-    for (uint32_t i = 0; i < o.n; i++) save(slot_path(folder, i + 1), tray + i * SLOT, SLOT);
+    for (uint32_t i = 0; i < o.n; i++) save(slot_path(folder, i + 1), tray + i * CS_SLOT, CS_SLOT);
 }
 
 /* T F N STAMP SECRET TRAY */
@@ -74,10 +72,10 @@ static answer cut(char **word) {
     order o = order_in(word);
     size_t length = load(word[4], secret, sizeof secret);
     /* a t or a length that is refused in any case needs no random words */
-    size_t count = o.t <= MOST_T && length <= MOST_LENGTH ? o.t * length : 0;
+    size_t count = o.t <= CS_GREATEST_T && length <= CS_LONGEST_SECRET ? o.t * length : 0;
     draw_words(random_words, count);
     uint32_t number = cs_cut(o.t, o.f, o.n, number_in(word[3]), secret, length, random_words, count,
-                             tray, slots_of(o) * SLOT);
+                             tray, slots_of(o) * CS_SLOT);
     if (number == 0) save_tray(o, word[5]);
     return (answer){number, 0};
 }
@@ -99,7 +97,7 @@ static answer store(char **word) {
     size_t letter_length = load(word[5], letter, sizeof letter);
     cs_store_result r = cs_store(o.t, o.f, o.n, number_in(word[3]), slot, held_length, letter,
                                  letter_length);
-    if (r.number == 0) save(word[4], slot, SLOT);
+    if (r.number == 0) save(word[4], slot, CS_SLOT);
     return (answer){r.number, r.place};
 }
 
@@ -108,7 +106,7 @@ static answer fetch(char **word) {
     order o = order_in(word);
     size_t held_length = load(word[4], slot, sizeof slot);
     uint32_t number = cs_fetch(o.t, o.f, o.n, number_in(word[3]), slot, held_length);
-    if (number == 0) save(word[5], slot, SLOT);
+    if (number == 0) save(word[5], slot, CS_SLOT);
     return (answer){number, 0};
 }
 
@@ -136,7 +134,7 @@ static answer join(char **word) {
     order o = order_in(word);
     uint32_t length = number_in(word[4]);
     /* too great a length is answered with 2 whatever the room */
-    size_t room = length < MOST_LENGTH ? length : MOST_LENGTH;
+    size_t room = length < CS_LONGEST_SECRET ? length : CS_LONGEST_SECRET;
     size_t tray_length = load_tray(o, word[5]);
     cs_join_result r = cs_join(o.t, o.f, o.n, number_in(word[3]), length, tray, tray_length, secret,
                                room);

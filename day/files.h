@@ -10,6 +10,7 @@ int open(const char *path, int flags, ...);
 int mkstemp(char *path);
 long read(int file, void *bytes, size_t count);
 long write(int file, const void *bytes, size_t count);
+int fsync(int file);
 int close(int file);
 int rename(const char *from, const char *to);
 int unlink(const char *path);
@@ -54,6 +55,7 @@ static size_t load(const char *path, void *to, size_t limit) {
     return count;
 }
 
+/* All of it, on the disk: whoever is told that it is done may wipe the key. */
 static int wrote_all(int file, const uint8_t *bytes, size_t count) {
     while (count > 0) {
         long some = write(file, bytes, count);
@@ -61,7 +63,7 @@ static int wrote_all(int file, const uint8_t *bytes, size_t count) {
         bytes += some;
         count -= (size_t)some;
     }
-    return close(file) == 0;
+    return fsync(file) == 0 && close(file) == 0;
 }
 
 /*
