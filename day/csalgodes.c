@@ -143,11 +143,13 @@ static answer join(char **word) {
     return (answer){r.number, 0};
 }
 
-static const struct {
+typedef struct {
     const char *name, *words;
     int count;
     answer (*call)(char **word);
-} commands[] = {
+} command;
+
+static const command commands[] = {
     {"cut", "T F N STAMP SECRET TRAY", 6, cut},
     {"read", "SLOT", 1, read_slot},
     {"store", "T F N KEEPER HELD LETTER", 6, store},
@@ -178,16 +180,28 @@ static void help(void) {
         TROUBLE);
 }
 
+static const command *command_named(const char *name) {
+    for (int i = 0; i < COMMANDS; i++) {
+        if (strcmp(name, commands[i].name) == 0) return &commands[i];
+    }
+    return NULL;
+}
+
 int main(int count, char **word) {
     if (count == 2 && strcmp(word[1], "--help") == 0) {
         help();
         return 0;
     }
-    for (int i = 0; count > 1 && i < COMMANDS; i++) {
-        if (strcmp(word[1], commands[i].name) != 0 || count - 2 != commands[i].count) continue;
-        answer a = commands[i].call(word + 2);
+    const command *c = count > 1 ? command_named(word[1]) : NULL;
+    if (c && count - 2 == c->count) {
+        answer a = c->call(word + 2);
         tell(a);
         return (int)a.number;
+    }
+    if (c) {
+        dprintf(2, "csalgodes: %s takes %d words; here are %d\n", c->name, c->count, count - 2);
+    } else if (count > 1) {
+        dprintf(2, "csalgodes: there is no command %s\n", word[1]);
     }
     usage(2);
     return TROUBLE;
