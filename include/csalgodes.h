@@ -1,5 +1,5 @@
 /*
- * Csalgodes: shares of a signing key that come back right or not at all.
+ * Csalgodes: a signing key is cut into letters, and comes back right or not at all.
  *
  * A secret is cut into letters, one for each of n keepers. Later the letters that can still be had are
  * joined. Some may be old, some damaged, up to f of them lies; the secret comes back, or a number says
@@ -8,29 +8,33 @@
  *    secret   the key, 1..952 bytes.
  *    keeper   one who keeps a letter. Keepers are numbered 1..n.
  *    t        any t keepers together learn nothing of the secret but its length. t is 1..7.
- *    f        so many of the letters joined may be lies. f is at most t.
+ *    f        up to so many of the letters joined may be lies. f is 0..t.
  *    n        how many keepers there are, from t+4f+1 to 16.
  *    order    t, f and n together. Whoever cuts, keeps or joins a key is told the same order.
+ *    word     a number 0..256. Sharing counts modulo 257, so a word has one value more than a byte.
  *    letter   what one keeper keeps of one cut: the order, the keeper's number, the stamp, the secret's
  *             length, one share word for each byte of the secret, and check words. These find damage. They
- *             do not stop a liar, who can write good ones.
+ *             do not stop a liar, who can write good ones. It is 1 to 4 blocks of 512 bytes; the project's
+ *             docs/FORMAT.md has every byte.
  *    slot     2048 bytes, which hold one letter, or all zeros where there is none.
  *    tray     n slots end to end. Slot x, counted from 1, is keeper x's.
- *    stamp    the number of a cut, 1..4294967295. Who cuts chooses it, and takes a greater one for each new
- *             cut of a key: desks keep the greatest and refuse an older. Two cuts never share a stamp, since
- *             nothing else tells their letters apart, and mixed they do not join.
- *    desk     where a keeper keeps his letter: one slot, all zeros at first, changed by cs_store alone.
+ *    stamp    the number of a cut, 1..4294967295. Whoever cuts chooses it, and takes a greater one for each
+ *             new cut of a key: desks keep the greatest and refuse an older. No two cuts may have the
+ *             same: nothing else tells their letters apart, and to those of one the others are lies.
+ *    desk     where a keeper keeps his letter of one key: one slot, all zeros at first, changed by cs_store
+ *             alone.
  *
- * For C and C++ on x86-64 Linux. A program is built, after library/build, or after library/install, by
+ * For C and C++ on x86-64 Linux. A program is built after library/build by the first line, after
+ * library/install by the second:
  *
  *    gcc program.c -I target/library target/library/libcsalgodes.a
  *    gcc program.c $(pkg-config --cflags --libs csalgodes)
  *
  * Each call takes any values of its types: what is wrong with them is answered by a number, never by a
  * fault. What is lent is a pointer and the count of elements behind it, which must really be there. Where
- * the count is 0 the pointer is not looked at, and may be NULL. A part that is written must not overlap
- * another. No call writes anything but what its 'Writes' line says, and where the number is not 0, none
- * writes at all.
+ * the count is 0 the pointer is not looked at, and may be NULL. A part that a call writes must not overlap
+ * another that it is lent. No call writes anything but what its 'Writes' line says, and where the number is
+ * not 0, none writes at all.
  *
  * No call allocates memory, or remembers anything for the next one. Threads may call at once, if none
  * writes what another is lent. A call takes less than 64 KB of stack, and does not wipe it: after a
@@ -61,12 +65,12 @@ extern "C" {
 /* The sizes, for arrays that hold whatever is lawful. */
 enum {
     CS_LONGEST_SECRET = 952, /* bytes */
-    CS_SLOT = 2048,          /* bytes of a slot, and so of a letter */
+    CS_SLOT = 2048,          /* bytes of a slot, which holds one letter */
     CS_GREATEST_T = 7,
     CS_MOST_KEEPERS = 16,
     CS_LARGEST_TRAY = CS_MOST_KEEPERS * CS_SLOT,                 /* bytes; a tray has n * CS_SLOT */
     CS_MOST_RANDOM_WORDS = CS_GREATEST_T * CS_LONGEST_SECRET,    /* a cut takes t for each byte */
-    CS_GREATEST_WORD = 256   /* of random words, and of any other word */
+    CS_GREATEST_WORD = 256   /* of random words, as of any */
 };
 
 /*
@@ -81,7 +85,7 @@ enum {
     CS_WRONG_SIZE = 4,          /* a lent part has the wrong length */
     CS_RANDOM_TOO_GREAT = 5,    /* a random word is above 256 */
     CS_TOO_FEW = 6,             /* fewer than t+f+1 usable letters; for the pick, no group that large */
-    CS_NO_AGREEMENT = 7,        /* no polynomials match enough letters */
+    CS_NO_AGREEMENT = 7,        /* the letters differ: no polynomials match enough of them */
     CS_NOT_BYTES = 8,           /* they match, but some constant is 256, which is no byte */
     CS_WORD_TOO_GREAT = 9,      /* a word in a block is above 256 */
     CS_CHECK_WRONG = 10,        /* a check word is wrong: the block is damaged */
@@ -114,9 +118,10 @@ typedef struct {
 cs_read_result cs_read(const uint8_t *slot, size_t slot_length);
 
 /*
- * Cuts a secret into a tray: keeper x's letter goes to slot x. For byte i of the secret the
- * coefficients of x, x^2, .. x^t are random words i*t .. i*t+t-1; each is 0..256, and each value must be
- * as likely as any other. Random words are used once.
+ * Cuts a secret into a tray: keeper x's letter goes to slot x. Byte i of the secret is the constant of a
+ * polynomial whose coefficients of x, x^2, .. x^t are random words i*t .. i*t+t-1; keeper x's share word i
+ * is its value at x, modulo 257. Each random word is 0..256, every value as likely as any other, 0 too.
+ * Nobody may be able to guess them, and no two cuts may use the same.
  *
  * Lent: the secret, 1..952 bytes; exactly t random words for each of them; the tray, n*2048 bytes.
  * Answers: 0, 1, 2, 3, 4 or 5.
@@ -136,10 +141,10 @@ typedef struct {
 } cs_join_result;
 
 /*
- * Joins the letters of a tray that read as good and have this order, stamp and length and their own
- * slot's keeper number: the usable ones. If the tray was cut, at most f usable letters differ from the cut
- * and any others are made unusable, the answer is never a wrong secret, and it is the right one if t+2f+1
- * letters are usable or t+f+1 of the usable ones are unaltered.
+ * Joins the usable letters of a tray: those that read as good and have this order, stamp and length and
+ * their own slot's keeper number. Say that the tray was cut, and then at most f usable letters came to
+ * differ from the cut, and any others to be unusable. Then the secret given is never a wrong one. The right
+ * one is given if t+2f+1 letters are usable, or if t+f+1 usable ones are as they were cut.
  *
  * Lent: the tray, n*2048 bytes; room for exactly length bytes.
  * Writes: the secret to all of the room where the number is 0, else nothing.
@@ -184,9 +189,9 @@ typedef struct {
 } cs_pick_result;
 
 /*
- * Picks what to join: of the tray's good letters of this order, each in its own keeper's slot,
- * grouped by stamp and length, the group of at least t+f+1 with the greatest stamp, and of those the
- * greatest length.
+ * Picks what to join. The tray's good letters of this order, each in its own keeper's slot, are grouped
+ * by stamp and length. Of the groups of at least t+f+1 letters the pick answers the one with the greatest
+ * stamp, and of those the greatest length.
  *
  * Lent: the tray, n*2048 bytes.
  * Writes: nothing.
