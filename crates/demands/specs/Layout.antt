@@ -5,7 +5,7 @@ use Prim.Native.Nat.{ℕ}
 use mathlib.Core.Path.{_≡_, refl}
 use mathlib.Core.Bool.{true}
 use mathlib.Core.List.{List, [], _∷_, _++_}
-use lib.ListN.{length, getD, take, drop, replicate}
+use lib.ListN.{take, drop, replicate}
 use Rattle.lists.specs.Listed.{listed}
 use Rattle.lists.specs.Pieces.{pieces}
 use Rattle.lists.specs.Total.{total}

@@ -14,7 +14,7 @@ use Rattle.cut.specs.Cut.{CutDone}
 use Rattle.join.specs.declared.Joined.{Joined}
 use Rattle.join.specs.Join.{Outcome, few, apart, wide, joined, JoinDone, refused, judged}
 use Rattle.desk.specs.declared.Stored.{Stored}
-use Rattle.desk.specs.Desk.{storeNumber, storeLeaves, StoreDone}
+use Rattle.desk.specs.Desk.{storeLeaves, StoreDone}
 use Rattle.report_text.specs.declared.answer.Answered.{Answered}
 use Rattle.report_text.specs.Report.{Reported}
 

@@ -18,7 +18,7 @@ use Rattle.pick.specs.declared.Picked.{Picked}
 use Rattle.pick.specs.Pick.{PickDone, pickRefusal}
 use Rattle.pick.specs.Pick as pick
 use Rattle.join.specs.declared.Joined.{Joined}
-use Rattle.join.specs.Join.{JoinDone, Outcome, joinRefusal}
+use Rattle.join.specs.Join.{JoinDone, joinRefusal}
 use Rattle.join.specs.Join as join
 use Rattle.report_text.specs.Report.{keeperLines, told, lines, orderIn, trayIn, ReportOf, short, unpicked, joined}
 
