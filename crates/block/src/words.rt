@@ -1,6 +1,7 @@
 // Words of two bytes, high byte first: read one, write a run, read a run.
 ghost use mathlib.Core.Path.{_≡_};
 ghost use Prim.Native.Nat.{_+_, _*_, _/_, _%_, _<_, _≤_};
+ghost use lib.Dec.{eqb};
 ghost use lib.ListN.{length, getD, take, drop};
 ghost use Rattle.lists.specs.Listed.{listed};
 ghost use Rattle.lists.specs.Patched.{patched};
@@ -59,6 +60,14 @@ fn exchanged_at(bytes: &[u8], i: usize) -> u16
     let first = bytes[2 * i];
     let second = bytes[2 * i + 1];
     pair(second, first)
+}
+
+// Whether word i of some bytes is word i of others. Exchanged on both sides, a word is compared as it stands.
+pub fn same_word(a: &[u8], b: &[u8], i: usize) -> bool
+    requires { ⌜ (2 * i + 1 < length (now a)) × (2 * i + 1 < length (now b)) ⌝ }
+    ensures { λ r. ⌜ r ≡ eqb (getD (wordsOf (now (a .entry))) i 0) (getD (wordsOf (now (b .entry))) i 0) ⌝ }
+{
+    exchanged_at(a, i) == exchanged_at(b, i)
 }
 
 fn take_exchanged(bytes: &[u8], from: usize, row: &mut [u16])

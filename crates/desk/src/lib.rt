@@ -6,6 +6,7 @@ ghost use lib.ListN.{length};
 ghost use Rattle.lists.specs.SameBytes.{sameBytes};
 ghost use Rattle.format.specs.Reading.{readOf, placeOf};
 ghost use Rattle.desk.specs.Desk.{ofDesk, stampHeld, deskRight, against, offered, storeNumber, storePlace, StoreDone, fetchNumber, fetched};
+use block::bytes;
 use format::reader::Reading;
 use format::reader::read;
 use header::head::Head;
@@ -46,22 +47,6 @@ fn stamp_held(o: Order, keeper: usize, slot: &[u8]) -> u32
     }
 }
 
-fn same_bytes(a: &[u8], b: &[u8]) -> bool
-    ensures { λ r. ⌜ r ≡ sameBytes (now (a .entry)) (now (b .entry)) ⌝ }
-{
-    if a.len() != b.len() {
-        return false;
-    }
-    let mut i = 0;
-    while i < a.len() {
-        if a[i] != b[i] {
-            return false;
-        }
-        i += 1;
-    }
-    true
-}
-
 fn copy(held: &mut [u8], letter: &[u8])
     requires { ⌜ length (now held) ≡ length (now letter) ⌝ }
     ensures { λ _. ⌜ now (held .exit) ≡ now (letter .entry) ⌝ }
@@ -84,7 +69,7 @@ fn against_held(o: Order, keeper: usize, stamp: u32, held: &[u8], letter: &[u8])
     if stamp < before {
         return 14;
     }
-    if same_bytes(held, letter) { 0 } else { 15 }
+    if bytes::same(held, letter) { 0 } else { 15 }
 }
 
 // What a letter is found to be where there is such a desk and both are slots.

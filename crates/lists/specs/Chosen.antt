@@ -77,6 +77,12 @@ chosen-append f (x ∷ xs) ys = ap (λ (r : List ℕ). cond (f x) (x ∷ r) r) (
     step true = refl
     step false = refl
 
+-- where none passes, none is chosen
+pub chosen-none : (f : ℕ → Bool) (xs : List ℕ) → ((y : ℕ) → In y xs → f y ≡ false) → chosen f xs ≡ []
+unfolding chosen
+chosen-none f [] h = refl
+chosen-none f (x ∷ xs) h = rw (h x (inl refl), chosen-none f xs (λ y m. h y (inr m)))
+
 -- to count among the chosen is to count those that pass both tests
 pub count-chosen : (f g : ℕ → Bool) (xs : List ℕ) → count g (chosen f xs) ≡ count (both f g) xs
 unfolding chosen count

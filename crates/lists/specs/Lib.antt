@@ -2,6 +2,7 @@ pub mod AllTo
 pub mod AllToLaws
 pub mod Below
 pub mod Chosen
+pub mod ChosenFrom
 pub mod Count
 pub mod Different
 pub mod Every
@@ -17,6 +18,7 @@ pub mod Map
 pub mod Member
 pub mod Modulus
 pub mod Parts
+pub mod Passed
 pub mod Patched
 pub mod PatchedAt
 pub mod Pieces
