@@ -55,10 +55,10 @@ extern "C" {
  * name has both, so that a program runs with the calls that it was built for or does not start.
  */
 #define CSALGODES_VERSION_MAJOR 0
-#define CSALGODES_VERSION_MINOR 1
+#define CSALGODES_VERSION_MINOR 2
 #define CSALGODES_VERSION_PATCH 0
 
-/* As one number, to be compared: 0.1.0 is 100, and 1.2.3 would be 10203. */
+/* As one number, to be compared: 0.2.0 is 200, and 1.2.3 would be 10203. */
 #define CSALGODES_VERSION \
     (CSALGODES_VERSION_MAJOR * 10000 + CSALGODES_VERSION_MINOR * 100 + CSALGODES_VERSION_PATCH)
 
@@ -70,7 +70,8 @@ enum {
     CS_MOST_KEEPERS = 16,
     CS_LARGEST_TRAY = CS_MOST_KEEPERS * CS_SLOT,                 /* bytes; a tray has n * CS_SLOT */
     CS_MOST_RANDOM_WORDS = CS_GREATEST_T * CS_LONGEST_SECRET,    /* a cut takes t for each byte */
-    CS_GREATEST_WORD = 256   /* of random words, as of any */
+    CS_GREATEST_WORD = 256,  /* of random words, as of any */
+    CS_MOST_DIFFERENCES = CS_LARGEST_TRAY / 2                    /* every word of two trays */
 };
 
 /*
@@ -95,7 +96,8 @@ enum {
     CS_OLDER = 14,              /* older than the letter held */
     CS_SAME_STAMP = 15,         /* the same stamp as the letter held, other bytes */
     CS_OTHER_DESK = 16,         /* a good letter, but not of this desk's order and keeper */
-    CS_NOTHING_HELD = 17        /* nothing good is held */
+    CS_NOTHING_HELD = 17,       /* nothing good is held */
+    CS_LIST_TOO_SHORT = 18      /* the list lent has fewer places than there are differences */
 };
 
 /* What a slot reads as. */
@@ -198,6 +200,35 @@ typedef struct {
  */
 cs_pick_result cs_pick(uint32_t t, uint32_t f, uint32_t n,
                        const uint8_t *tray, size_t tray_length);
+
+/* A place where two trays differ, and what stands there: any two bytes, high byte first, as a number. */
+typedef struct {
+    uint16_t slot;   /* 1..n */
+    uint16_t block;  /* of the slot, 0..3; a block has 512 bytes */
+    uint16_t word;   /* of the block, 0..255; a word has 2 bytes */
+    uint16_t first;  /* the first tray's word, 0..65535 */
+    uint16_t second; /* the second tray's */
+} cs_difference;
+
+/* What a comparison found. */
+typedef struct {
+    uint32_t number; /* 0, 1, 4 or 18 */
+    uint32_t count;  /* of 0 and 18: how many words differ; else 0 */
+} cs_compare_result;
+
+/*
+ * Compares two trays of one order, word by word, whatever they hold: no letter is read, and damaged blocks
+ * are compared like others. Each place where they differ goes to the list once, in rising order of slot,
+ * block and word. If the list has too few places for all of them, the number is 18, nothing is written, and
+ * the count says how many places it takes. CS_MOST_DIFFERENCES are enough for any two trays.
+ *
+ * Lent: both trays, n*2048 bytes each; the list, of any count of places.
+ * Writes: the first places of the list, as many as count says, where the number is 0, else nothing.
+ */
+cs_compare_result cs_compare(uint32_t t, uint32_t f, uint32_t n,
+                             const uint8_t *first, size_t first_length,
+                             const uint8_t *second, size_t second_length,
+                             cs_difference *list, size_t list_count);
 
 #ifdef __cplusplus
 }

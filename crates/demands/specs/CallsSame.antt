@@ -11,15 +11,18 @@ use Rattle.cut.specs.LetterField.{LetterField}
 use Rattle.join.specs.Join.{JoinDone}
 use Rattle.desk.specs.Desk.{StoreDone}
 use Rattle.pick.specs.Pick.{PickDone}
+use Rattle.compare.specs.Compare.{CompareDone}
+use Rattle.exports.specs.declared.comparing.CompareResult.{CompareResult}
 use Rattle.exports.specs.declared.joining.JoinResult.{JoinResult}
 use Rattle.exports.specs.declared.keeping.StoreResult.{StoreResult}
 use Rattle.exports.specs.declared.picking.PickResult.{PickResult}
 use Rattle.exports.specs.declared.reading.ReadResult.{ReadResult}
+use Rattle.exports.specs.Compare.{comparedAs}
 use Rattle.exports.specs.Join.{joinedAs}
 use Rattle.exports.specs.Pick.{pickedAs}
 use Rattle.exports.specs.Read.{readResult}
 use Rattle.exports.specs.Store.{storedAs}
-use Rattle.demands.specs.Same.{join-same, store-same, pick-same}
+use Rattle.demands.specs.Same.{join-same, store-same, pick-same, compare-same}
 
 pub cs-read-same : (slot : List ℕ) {result result′ : ReadResult} → result ≡ readResult (readOf slot) → result′ ≡ readResult (readOf slot) → result ≡ result′
 cs-read-same slot e e′ = e ∙ sym e′
@@ -42,3 +45,10 @@ pub cs-pick-same : (order : Order) (tray : List ℕ) (a b : PickResult) → Pick
 cs-pick-same order tray a b D D′ =
     let same : pickedAs a ≡ pickedAs b = pick-same order tray (pickedAs a) (pickedAs b) D D′ in
     λ i. record { number = same i .number; stamp = same i .stamp; length = same i .length }
+
+pub cs-compare-same : {order : Order} {first second : List ℕ} {list left left′ : List (List ℕ)} {result result′ : CompareResult}
+    → CompareDone order first second list (comparedAs result) left → CompareDone order first second list (comparedAs result′) left′ → (result ≡ result′) × (left ≡ left′)
+cs-compare-same {result = result} {result′} D D′ =
+    let one = compare-same D D′ in
+    let same : comparedAs result ≡ comparedAs result′ = one .0 in
+    (λ i. record { number = same i .number; count = same i .count }, one .1)

@@ -11,6 +11,8 @@ pub mod Secrecy
 -- "Any two results allowed by one promise are proved the same"
 pub mod Same
 pub mod CallsSame
+-- nothing that differs is left out of a comparison
+pub mod Differences
 -- C1..C12
 pub mod WorkedNumbers
 -- where the numbers stand in a letter

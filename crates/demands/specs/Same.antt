@@ -21,6 +21,9 @@ use Rattle.desk.specs.Desk.{StoreDone, fetchNumber, fetched}
 use Rattle.pick.specs.declared.Picked.{Picked}
 use Rattle.pick.specs.Pick.{NotAfter, picked, PickDone}
 use Rattle.pick.specs.Pick as pick
+use Rattle.compare.specs.declared.Compared.{Compared}
+use Rattle.compare.specs.Compare.{CompareDone}
+use Rattle.compare.specs.Compare as compare
 use Rattle.lines.specs.Lines.{answerLine}
 use Rattle.report_text.specs.declared.answer.Answered.{Answered}
 use Rattle.report_text.specs.Report.{orderIn, trayIn, ReportOf, short, unpicked, joined, Reported}
@@ -58,6 +61,19 @@ fetch-number-same order keeper held e e′ = e ∙ sym e′
 pub fetch-same : (order : Order) (keeper : ℕ) (held : List ℕ) {part part′ : List ℕ}
     → part ≡ fetched order keeper held → part′ ≡ fetched order keeper held → part ≡ part′
 fetch-same order keeper held e e′ = e ∙ sym e′
+
+-- the comparison of two trays
+pub compare-same : {order : Order} {first second : List ℕ} {list left left′ : List (List ℕ)} {result result′ : Compared}
+    → CompareDone order first second list result left → CompareDone order first second list result′ left′ → (result ≡ result′) × (left ≡ left′)
+compare-same (compare.refused h) (compare.refused h′) = (refl, refl)
+compare-same (compare.refused h) (compare.short e l) = absurd (h e)
+compare-same (compare.refused h) (compare.told e l) = absurd (h e)
+compare-same (compare.short e l) (compare.refused h) = absurd (h e)
+compare-same (compare.short e l) (compare.short e′ l′) = (refl, refl)
+compare-same (compare.short e l) (compare.told e′ l′) = absurd (omega arith)
+compare-same (compare.told e l) (compare.refused h) = absurd (h e)
+compare-same (compare.told e l) (compare.short e′ l′) = absurd (omega arith)
+compare-same (compare.told e l) (compare.told e′ l′) = (refl, refl)
 
 -- the pick
 one-group : (s k stamp l : ℕ) → NotAfter s k stamp l → NotAfter stamp l s k → picked 0 s k ≡ picked 0 stamp l

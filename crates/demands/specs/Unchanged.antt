@@ -15,6 +15,9 @@ use Rattle.join.specs.declared.Joined.{Joined}
 use Rattle.join.specs.Join.{Outcome, few, apart, wide, joined, JoinDone, refused, judged}
 use Rattle.desk.specs.declared.Stored.{Stored}
 use Rattle.desk.specs.Desk.{storeLeaves, StoreDone}
+use Rattle.compare.specs.declared.Compared.{Compared}
+use Rattle.compare.specs.Compare.{CompareDone}
+use Rattle.compare.specs.Compare as compare
 use Rattle.report_text.specs.declared.answer.Answered.{Answered}
 use Rattle.report_text.specs.Report.{Reported}
 
@@ -41,6 +44,13 @@ pub store-unchanged : {order : Order} {keeper : ℕ} {held letter left : List �
     → StoreDone order keeper held letter result left → (result .number ≡ 0 → ⊥) → left ≡ held
 unfolding storeLeaves
 store-unchanged D wrong = D .leaves ∙ rw (ne-eqb _ 0 (λ e. wrong (D .number ∙ e)))
+
+-- the list of what changed between two trays
+pub compare-unchanged : {order : Order} {first second : List ℕ} {list left : List (List ℕ)} {result : Compared}
+    → CompareDone order first second list result left → (result .number ≡ 0 → ⊥) → left ≡ list
+compare-unchanged (compare.refused h) wrong = refl
+compare-unchanged (compare.short e l) wrong = refl
+compare-unchanged (compare.told e l) wrong = absurd (wrong refl)
 
 -- The report always writes, a refusal too: its own rule is that nothing past what it writes is changed.
 pub report-unchanged : {input before after : List ℕ} {answered : Answered} → Reported input before answered after → drop (answered .count) after ≡ drop (answered .count) before

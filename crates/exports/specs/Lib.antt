@@ -1,3 +1,4 @@
+pub mod Compare
 pub mod Join
 pub mod Pick
 pub mod Read

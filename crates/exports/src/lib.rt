@@ -1,4 +1,5 @@
 // The public calls for C, Rust and Python: plain numbers and slices.
+pub mod comparing;
 pub mod cutting;
 pub mod joining;
 pub mod keeping;

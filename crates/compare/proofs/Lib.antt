@@ -1,0 +1,4 @@
+pub mod Comparing
+pub mod Looking
+pub mod Putting
+pub mod Turns

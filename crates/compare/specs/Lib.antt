@@ -1,0 +1,4 @@
+pub mod Compare
+pub mod CompareLaws
+pub mod Parts
+pub mod PartLaws
