@@ -2,6 +2,7 @@
 //! numbers are read as they stand there, and both must give them.
 
 use second::block::{self, Words, BLOCK, WORDS};
+use second::compare::{compare, Compared, Difference};
 use second::cut::cut;
 use second::damage::{exchange_slot, forge_word, lie, set_word, share, slot, word};
 use second::desk::{Desk, Stored};
@@ -79,6 +80,14 @@ impl Both {
         assert_eq!(pick(order, tray), picked);
         picked
     }
+
+    fn compare(&mut self, first: &[u8], second: &[u8], list: &mut [Difference]) -> Compared {
+        let mut expected = list.to_vec();
+        let compared = self.library.compare(ORDER, first, second, list);
+        assert_eq!(compare(ORDER, first, second, &mut expected), compared);
+        assert!(expected == list, "the two programs leave the same list");
+        compared
+    }
 }
 
 #[test]
@@ -134,7 +143,7 @@ fn all_numbers_in_their_order() {
     let page = page();
     let rows = table(&page, "| number | answered exactly when | by |");
     let found: Vec<u32> = rows.iter().map(|row| number(row[0])).collect();
-    assert_eq!(found, (0..18).collect::<Vec<_>>());
+    assert_eq!(found, (0..=18).collect::<Vec<_>>());
 }
 
 #[test]
@@ -335,6 +344,40 @@ fn picks() {
         }
         let [number, stamp, length] = [6, 7, 8].map(|i| number(row[i]));
         assert_eq!(both.pick(ORDER, &tray), Picked { number, stamp, length }, "{row:?}");
+    }
+}
+
+/// C1's tray and the page's second one, and the differences that the page has.
+fn compared_trays(page: &str, both: &mut Both) -> (Vec<u8>, Vec<u8>, Vec<Difference>) {
+    let first = both.cut_byte(200, 100);
+    let mut second = first.clone();
+    for row in table(page, "| byte | in the first | in the second |") {
+        let [at, before, after] = [0, 1, 2].map(|i| number(row[i]));
+        assert_eq!(u32::from(first[at as usize]), before, "{row:?}");
+        second[at as usize] = after as u8;
+    }
+    let rows = table(page, "| slot | block | word | first | second |");
+    let told = rows.iter().map(|row| {
+        let [slot, block, word, first, second] = [0, 1, 2, 3, 4].map(|i| number(row[i]) as u16);
+        Difference { slot, block, word, first, second }
+    });
+    (first, second, told.collect())
+}
+
+#[test]
+fn a_comparison() {
+    let (page, mut both) = (page(), Both::start());
+    let (first, second, told) = compared_trays(&page, &mut both);
+    let rows = table(&page, "| places lent | number | count | places written |");
+    assert_eq!(rows.len(), 4);
+    for row in rows {
+        let [places, number, count, written] = [0, 1, 2, 3].map(|i| number(row[i]));
+        let before = Difference { slot: 9, block: 9, word: 9, first: 9, second: 9 };
+        let [mut list, mut left] = [(); 2].map(|()| vec![before; places as usize]);
+        left[..written as usize].copy_from_slice(&told[..written as usize]);
+        let compared = both.compare(&first, &second, &mut list);
+        assert_eq!(compared, Compared { number, count }, "{row:?}");
+        assert_eq!(list, left, "{row:?}");
     }
 }
 

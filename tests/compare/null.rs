@@ -1,6 +1,7 @@
 //! NULL where a part is empty: each call answers as the second program does, which knows no pointers.
 
 use second::cases::Tray;
+use second::compare::{compare, Difference};
 use second::cut::cut;
 use second::desk::Desk;
 use second::join::join;
@@ -116,4 +117,26 @@ fn the_tray_of_a_pick() {
         }
     }
     tally.expect(972, &[0, 1, 4]);
+}
+
+/// The trays are the same, or differ in one word of each slot.
+#[test]
+fn each_part_of_a_comparison() {
+    let (random, mut peer, mut tally) = (&Random::new(125), Peer::with_null(), Tally::default());
+    let place = Difference { slot: 9, block: 8, word: 7, first: 6, second: 5 };
+    for (order, tray) in told(random) {
+        let mut other = tray.bytes.clone();
+        other.iter_mut().step_by(SLOT).for_each(|byte| *byte ^= 1);
+        for (empty, second) in (0..8).flat_map(|empty| [(empty, &tray.bytes), (empty, &other)]) {
+            let (first, second) = (lent(&tray.bytes, empty, 0), lent(second, empty, 1));
+            let mut expected = lent(&[place; 17], empty, 2).to_vec();
+            let mut left = expected.clone();
+            let compared = compare(order, first, second, &mut expected);
+            let answered = peer.compare(order, first, second, &mut left);
+            assert_eq!(answered, compared, "{order:?}, empty {empty:b}");
+            assert!(left == expected, "{order:?}, empty {empty:b}");
+            tally.add(compared.number);
+        }
+    }
+    tally.expect(7776, &[0, 1, 4, 18]);
 }

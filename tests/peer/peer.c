@@ -8,7 +8,7 @@
 long read(int file, void *bytes, size_t count);
 long write(int file, const void *bytes, size_t count);
 
-enum { NUMBERS = 5, PARTS = 3, RESULTS = 8, GUARD = 64, GUARD_BYTE = 0xa5, LARGEST = 1 << 16 };
+enum { NUMBERS = 5, PARTS = 3, RESULTS = 8, GUARD = 64, GUARD_BYTE = 0xa5, LARGEST = 1 << 18 };
 
 static struct {
     uint32_t call;
@@ -86,6 +86,14 @@ static void answer_pick(const uint32_t *number, const uint8_t *tray, size_t size
     result[2] = r.length;
 }
 
+static void answer_compare(const uint32_t *number, const uint8_t *first, const uint8_t *second,
+                           cs_difference *list, const uint32_t *size) {
+    cs_compare_result r = cs_compare(number[0], number[1], number[2], first, size[0], second,
+                                     size[1], list, size[2] / sizeof *list);
+    result[0] = r.number;
+    result[1] = r.count;
+}
+
 /* An empty part is NULL where the tests ask for that. */
 static uint8_t *part(int k) {
     return request.null && request.size[k] == 0 ? NULL : memory[k] + GUARD;
@@ -107,6 +115,7 @@ static int answer(void) {
         result[0] = cs_fetch(number[0], number[1], number[2], number[3], first, size[0]);
         return 1;
     case 5: answer_pick(number, first, size[0]); return 1;
+    case 6: answer_compare(number, first, second, (cs_difference *)third, size); return 1;
     default: return 0;
     }
 }

@@ -1,7 +1,7 @@
-//! The second program: the rules of the cut, the letter, the join, the desk, the pick and the
-//! report, written from the page alone, the sheet of rules that `docs/FORMAT.md` says in our own
-//! words. It shares no code and no table with the proved one, so that a mistake would have to be made
-//! twice to go unseen.
+//! The second program: the rules of the cut, the letter, the join, the desk, the pick, the report and
+//! the comparison, written from the page alone, the sheet of rules that `docs/FORMAT.md` says in our
+//! own words. It shares no code and no table with the proved one, so that a mistake would have to be
+//! made twice to go unseen.
 //!
 //! Everything here is written to be plainly right and not to be quick, save `fast`, which holds the
 //! best loops we know for the cut and the join, for a fair comparison of speed.
@@ -12,6 +12,7 @@
 
 pub mod block;
 pub mod cases;
+pub mod compare;
 pub mod cut;
 pub mod damage;
 pub mod desk;

@@ -10,6 +10,7 @@
 use std::io::{BufReader, Read, Write};
 use std::process::{Child, ChildStdin, ChildStdout, Command, Stdio};
 
+use crate::compare::{Compared, Difference};
 use crate::desk::{Desk, Stored};
 use crate::join::Joined;
 use crate::order::Order;
@@ -20,6 +21,9 @@ const PARTS: usize = 3;
 const RESULTS: usize = 8;
 const GUARD: usize = 64;
 const GUARD_BYTE: u8 = 0xa5;
+
+/// The bytes of one place in the list of a comparison.
+const PLACE: usize = 10;
 
 /// Where the gate builds.
 const TARGET: &str = concat!(env!("CARGO_MANIFEST_DIR"), "/../target");
@@ -178,6 +182,36 @@ impl Peer {
         let [number, stamp, length, ..] = numbers;
         Picked { number, stamp, length }
     }
+
+    pub fn compare(
+        &mut self,
+        order: Order,
+        first: &[u8],
+        second: &[u8],
+        list: &mut [Difference],
+    ) -> Compared {
+        let numbers = [order.t, order.f, order.n];
+        let places: Vec<u8> = list.iter().flat_map(place_bytes).collect();
+        let Reply { numbers, left } = self.call(6, &numbers, &[first, second, &places]);
+        assert!(left[0] == first && left[1] == second, "both are only lent to be read");
+        for (place, bytes) in list.iter_mut().zip(left[2].chunks(PLACE)) {
+            *place = place_of(bytes);
+        }
+        let [number, count, ..] = numbers;
+        Compared { number, count }
+    }
+}
+
+/// The bytes of a place in a list, as C has them on x86-64.
+fn place_bytes(place: &Difference) -> Vec<u8> {
+    let &Difference { slot, block, word, first, second } = place;
+    [slot, block, word, first, second].map(u16::to_le_bytes).concat()
+}
+
+fn place_of(bytes: &[u8]) -> Difference {
+    let number = |i: usize| u16::from_le_bytes([bytes[2 * i], bytes[2 * i + 1]]);
+    let [slot, block, word, first, second] = [0, 1, 2, 3, 4].map(number);
+    Difference { slot, block, word, first, second }
 }
 
 /// What a desk is told at each call.

@@ -38,6 +38,7 @@ typedef struct {
     uint32_t same;   /* so many words are the same in both cuts */
     uint32_t absent; /* keepers whose slots hold nothing */
     uint32_t others; /* keepers whose slots hold the other cut's letters */
+    uint32_t places; /* so many has the list that a comparison is lent */
     uint32_t number; /* the answer that is to be given */
 } measurement;
 
@@ -54,6 +55,7 @@ static struct {
     uint8_t guard[LIMIT], ground[GROUND];
     uint8_t tray[TRAY], other[TRAY], secret[LONGEST], room[LONGEST];
     uint16_t random[MOST_T * LONGEST];
+    cs_difference list[CS_MOST_DIFFERENCES];
     uint8_t paint;
     uint32_t number;
 } *common;
@@ -84,6 +86,12 @@ static uint32_t run_pick(void) { return cs_pick(now.t, now.f, N, common->tray, T
 static uint32_t run_join(void) {
     cs_join_result r = cs_join(now.t, now.f, N, STAMP, LONGEST, common->tray, TRAY, common->room,
                                LONGEST);
+    return r.number;
+}
+
+static uint32_t run_compare(void) {
+    cs_compare_result r = cs_compare(now.t, now.f, N, common->tray, TRAY, common->other, TRAY,
+                                     common->list, now.places);
     return r.number;
 }
 
@@ -168,7 +176,7 @@ static int within_limit(outcome o) { return o.first > 0 && larger(o.first, o.lat
 
 /* Whether all is as it should be. */
 static int tell(const measurement *m, outcome o) {
-    printf("%-5s  %-58s  %6zu  %6zu\n", m->call, m->input, o.first, o.later);
+    printf("%-7s  %-58s  %6zu  %6zu\n", m->call, m->input, o.first, o.later);
     if (o.first == 0) printf("^ could not be made, or crashed\n");
     else if (!within_limit(o)) printf("^ takes %d bytes or more\n", LIMIT);
     else if (o.number != m->number) printf("^ answered %u and not %u\n", o.number, m->number);
@@ -184,6 +192,9 @@ static const measurement chosen[] = {
     {"fetch", "a letter of four blocks", run_fetch, .t = 7, .f = 2},
     {"pick", "t=7 f=2, one group", run_pick, .t = 7, .f = 2},
     {"pick", "t=3 f=2, two groups", run_pick, .t = 3, .f = 2, .age = 1, .others = 0x5555},
+    {"compare", "equal trays", run_compare, .t = 7, .f = 2, .others = 0xffff},
+    {"compare", "two cuts", run_compare, .t = 7, .f = 2, .places = CS_MOST_DIFFERENCES},
+    {"compare", "two cuts, too short a list", run_compare, .t = 7, .f = 2, .places = 1, .number = 18},
     {"join", "t=7 f=2, nobody lies", run_join, .t = 7, .f = 2},
     {"join", "t=3 f=3, 3 lie in the last word", run_join, .t = 3, .f = 3, .same = 951, .others = 7},
     {"join", "t=7 f=2, 3 lie", run_join, .t = 7, .f = 2, .others = 0x0049, .number = 7},
