@@ -1,6 +1,8 @@
 /*
- * The six calls of the library, as commands on files. A slot is a file of 2048 bytes; a tray is a folder
- * of slots, named 1 .. n after their keepers. The status is the number that the call gave.
+ * The seven calls of the library, as commands on files. A slot is a file of 2048 bytes; a tray is a folder
+ * of slots, named 1 .. n after their keepers. The status is the number that the call gave, save where compare
+ * gave 0 and found words that differ: then it is DIFFERENT. So 0 says that nothing differs, as it does of cmp
+ * and diff; their 1 for what differs is here the number of an unlawful order.
  */
 #include "csalgodes.h"
 
@@ -20,14 +22,19 @@ typedef struct {
     uint32_t t, f, n;
 } order;
 
+/* The status of trays that differ: above all numbers of the library's, and not that of trouble. */
+enum { DIFFERENT = 99 };
+
 typedef struct {
     uint32_t number, place;
+    uint32_t differences; /* of compare alone */
 } answer;
 
-static uint8_t tray[CS_LARGEST_TRAY];
+static uint8_t tray[CS_LARGEST_TRAY], second_tray[CS_LARGEST_TRAY];
 static uint8_t slot[CS_SLOT + 1], letter[CS_SLOT + 1];
 static uint8_t secret[CS_LONGEST_SECRET + 1];
 static uint16_t random_words[CS_MOST_RANDOM_WORDS];
+static cs_difference differences[CS_MOST_DIFFERENCES];
 
 static uint32_t number_in(const char *word) {
     uint64_t number = 0;
@@ -54,11 +61,11 @@ static const char *slot_path(const char *folder, uint32_t keeper) {
     return path;
 }
 
-static size_t load_tray(order o, const char *folder) {
+static size_t load_tray(order o, const char *folder, uint8_t *to) {
     for (uint32_t i = 0; i < slots_of(o); i++) {
         const char *path = slot_path(folder, i + 1);
         if (load(path, slot, sizeof slot) != CS_SLOT) stop(path, "is not a slot of 2048 bytes");
-        for (size_t k = 0; k < CS_SLOT; k++) tray[i * CS_SLOT + k] = slot[k];
+        for (size_t k = 0; k < CS_SLOT; k++) to[i * CS_SLOT + k] = slot[k];
     }
     return slots_of(o) * CS_SLOT;
 }
@@ -77,7 +84,7 @@ static answer cut(char **word) {
     uint32_t number = cs_cut(o.t, o.f, o.n, number_in(word[3]), secret, length, random_words, count,
                              tray, slots_of(o) * CS_SLOT);
     if (number == 0) save_tray(o, word[5]);
-    return (answer){number, 0};
+    return (answer){.number = number};
 }
 
 /* SLOT */
@@ -87,7 +94,7 @@ static answer read_slot(char **word) {
         say("order %u %u %u keeper %u stamp %u length %u\n", r.t, r.f, r.n, r.keeper, r.stamp,
             r.length);
     }
-    return (answer){r.number, r.place};
+    return (answer){.number = r.number, .place = r.place};
 }
 
 /* T F N KEEPER HELD LETTER */
@@ -98,7 +105,7 @@ static answer store(char **word) {
     cs_store_result r = cs_store(o.t, o.f, o.n, number_in(word[3]), slot, held_length, letter,
                                  letter_length);
     if (r.number == 0) save(word[4], slot, CS_SLOT);
-    return (answer){r.number, r.place};
+    return (answer){.number = r.number, .place = r.place};
 }
 
 /* T F N KEEPER HELD LETTER */
@@ -107,16 +114,16 @@ static answer fetch(char **word) {
     size_t held_length = load(word[4], slot, sizeof slot);
     uint32_t number = cs_fetch(o.t, o.f, o.n, number_in(word[3]), slot, held_length);
     if (number == 0) save(word[5], slot, CS_SLOT);
-    return (answer){number, 0};
+    return (answer){.number = number};
 }
 
 /* T F N TRAY */
 static answer pick(char **word) {
     order o = order_in(word);
-    size_t tray_length = load_tray(o, word[3]);
+    size_t tray_length = load_tray(o, word[3], tray);
     cs_pick_result r = cs_pick(o.t, o.f, o.n, tray, tray_length);
     if (r.number == 0) say("stamp %u length %u\n", r.stamp, r.length);
-    return (answer){r.number, 0};
+    return (answer){.number = r.number};
 }
 
 static void tell_agreement(order o, cs_join_result r) {
@@ -135,12 +142,34 @@ static answer join(char **word) {
     uint32_t length = number_in(word[4]);
     /* too great a length is answered with 2 whatever the room */
     size_t room = length < CS_LONGEST_SECRET ? length : CS_LONGEST_SECRET;
-    size_t tray_length = load_tray(o, word[5]);
+    size_t tray_length = load_tray(o, word[5], tray);
     cs_join_result r = cs_join(o.t, o.f, o.n, number_in(word[3]), length, tray, tray_length, secret,
                                room);
     if (r.need > 0) tell_agreement(o, r);
     if (r.number == 0) save(word[6], secret, room);
-    return (answer){r.number, 0};
+    return (answer){.number = r.number};
+}
+
+/* For people and for scripts: a line for each word, its numbers always in this order. */
+static void tell_differences(uint32_t count) {
+    for (uint32_t i = 0; i < count; i++) {
+        cs_difference d = differences[i];
+        say("slot %u block %u word %u: %u became %u\n", d.slot, d.block, d.word, d.first, d.second);
+    }
+    if (count == 0) say("no word differs\n");
+    if (count == 1) say("1 word differs\n");
+    if (count > 1) say("%u words differ\n", count);
+}
+
+/* T F N BEFORE AFTER */
+static answer compare(char **word) {
+    order o = order_in(word);
+    size_t first_length = load_tray(o, word[3], tray);
+    size_t second_length = load_tray(o, word[4], second_tray);
+    cs_compare_result r = cs_compare(o.t, o.f, o.n, tray, first_length, second_tray, second_length,
+                                     differences, CS_MOST_DIFFERENCES);
+    if (r.number == 0) tell_differences(r.count);
+    return (answer){.number = r.number, .differences = r.count};
 }
 
 typedef struct {
@@ -156,6 +185,7 @@ static const command commands[] = {
     {"fetch", "T F N KEEPER HELD LETTER", 6, fetch},
     {"pick", "T F N TRAY", 4, pick},
     {"join", "T F N STAMP LENGTH TRAY SECRET", 7, join},
+    {"compare", "T F N BEFORE AFTER", 5, compare},
 };
 
 enum { COMMANDS = sizeof commands / sizeof commands[0] };
@@ -164,6 +194,10 @@ static void tell(answer a) {
     say("answer %u", a.number);
     if (has_place(a.number)) say(" in block %u", a.place);
     say(": %s\n", words_of[a.number]);
+}
+
+static int status_of(answer a) {
+    return a.number == 0 && a.differences > 0 ? DIFFERENT : (int)a.number;
 }
 
 static void usage(int file) {
@@ -175,9 +209,11 @@ static void usage(int file) {
 
 static void help(void) {
     usage(1);
-    say("T F N is the order, SLOT, HELD and LETTER are files of 2048 bytes, TRAY is a folder of them,\n"
-        "named 1 .. N. The status is the answer's number; %d is trouble with a file or a word.\n",
-        TROUBLE);
+    say("T F N is the order, SLOT, HELD and LETTER are files of 2048 bytes, TRAY, BEFORE and AFTER are\n"
+        "folders of them, named 1 .. N. The status is the answer's number; %d is trouble with a file or\n"
+        "a word. compare ends with 0 only where no word differs, and with %d where one does. The words that\n"
+        "it prints are of letters: keep what it says as you keep the letters.\n",
+        TROUBLE, DIFFERENT);
 }
 
 static const command *command_named(const char *name) {
@@ -196,7 +232,7 @@ int main(int count, char **word) {
     if (c && count - 2 == c->count) {
         answer a = c->call(word + 2);
         tell(a);
-        return (int)a.number;
+        return status_of(a);
     }
     if (c) {
         dprintf(2, "csalgodes: %s takes %d words; here are %d\n", c->name, c->count, count - 2);

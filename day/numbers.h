@@ -23,6 +23,7 @@ static const char *const words_of[] = {
     "the same stamp as the letter held, other bytes",
     "a good letter, but not of this desk's order and keeper",
     "nothing good is held",
+    "the list has fewer places than there are differences",
 };
 
 /* Whether the number is of a block, so that the block's place says more. */
