@@ -1,6 +1,6 @@
 /*
- * Csalgodes from C: cuts a secret for seven keepers, loses one letter, takes another from a liar, and
- * joins. Then too many letters are lost, and the join refuses.
+ * Csalgodes from C: cuts a secret for seven keepers, loses one letter, takes another from a liar, sees by
+ * comparing which slots changed, and joins. Then too many letters are lost, and the join refuses.
  *
  *     gcc -I target/library examples/c/example.c target/library/libcsalgodes.a -o example
  */
@@ -40,6 +40,23 @@ static int cut_new(uint8_t *secret, uint8_t *tray) {
     return number == 0;
 }
 
+/* Says in which slots two trays differ. No two trays of this order differ in more words than the list has. */
+static int compare_and_say(const uint8_t *before, const uint8_t *after) {
+    static cs_difference list[TRAY / 2];
+    cs_compare_result found = cs_compare(T, F, N, before, TRAY, after, TRAY, list, TRAY / 2);
+    if (found.number != 0) {
+        fprintf(stderr, "compare: number %u\n", found.number);
+        return 0;
+    }
+    printf("compare: slots that changed:");
+    for (uint32_t i = 0; i < found.count; i++) {
+        /* in rising order, so those of a slot stand together */
+        if (i == 0 || list[i].slot != list[i - 1].slot) printf(" %u", list[i].slot);
+    }
+    printf("\n");
+    return 1;
+}
+
 /* Joins, and says what was found. Whether the secret was written: a refusal leaves the room alone. */
 static int join_and_say(const uint8_t *tray, uint8_t *room) {
     cs_join_result found = cs_join(T, F, N, STAMP, LENGTH, tray, TRAY, room, LENGTH);
@@ -58,14 +75,16 @@ static int join_and_say(const uint8_t *tray, uint8_t *room) {
 }
 
 int main(void) {
-    static uint8_t tray[TRAY], other_tray[TRAY];
+    static uint8_t tray[TRAY], other_tray[TRAY], as_cut[TRAY];
     uint8_t secret[LENGTH], other_secret[LENGTH], room[LENGTH];
     if (!cut_new(secret, tray) || !cut_new(other_secret, other_tray)) return 1;
     printf("cut: %d bytes into %d letters\n", LENGTH, N);
+    memcpy(as_cut, tray, TRAY);
 
     /* Keeper 3 lies with a letter of another cut, which every check takes for good. */
     memcpy(slot(tray, 3), slot(other_tray, 3), SLOT);
     memset(slot(tray, 5), 0, SLOT);
+    if (!compare_and_say(as_cut, tray)) return 1;
     if (!join_and_say(tray, room) || memcmp(room, secret, LENGTH) != 0) {
         fprintf(stderr, "the secret did not come back\n");
         return 1;

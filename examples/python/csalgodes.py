@@ -1,4 +1,4 @@
-"""Csalgodes for Python: the calls that cut and join, with bytes in and out."""
+"""Csalgodes for Python: the calls that cut, join and compare, with bytes in and out."""
 
 from array import array
 from collections import namedtuple
@@ -6,6 +6,8 @@ from ctypes import CDLL, POINTER, Structure, c_char_p, c_size_t, c_uint8, c_uint
 
 SLOT = 2048
 Order = namedtuple("Order", "t f n")
+# a place where two trays differ, and the word that each has there
+Difference = namedtuple("Difference", "slot block word first second")
 
 
 class Found(Structure):
@@ -21,6 +23,14 @@ class Found(Structure):
         return f"number {self.number}, usable {self.usable}, need {self.need}"
 
 
+class _Compared(Structure):
+    _fields_ = [(name, c_uint32) for name in ("number", "count")]
+
+
+class _Place(Structure):
+    _fields_ = [(name, c_uint16) for name in Difference._fields]
+
+
 class Refused(Exception):
     """Has the number of the refusal; its text also says what a join found."""
 
@@ -32,13 +42,16 @@ class Refused(Exception):
 _read = [c_char_p, c_size_t]
 _written = [POINTER(c_uint8), c_size_t]
 _words = [POINTER(c_uint16), c_size_t]
+_places = [POINTER(_Place), c_size_t]
 
 # by the name that says which calls it has: one with other calls has another
-_library = CDLL("libcsalgodes.so.0.1")
+_library = CDLL("libcsalgodes.so.0.2")
 _library.cs_cut.argtypes = [c_uint32] * 4 + _read + _words + _written
 _library.cs_cut.restype = c_uint32
 _library.cs_join.argtypes = [c_uint32] * 5 + _read + _written
 _library.cs_join.restype = Found
+_library.cs_compare.argtypes = [c_uint32] * 3 + _read + _read + _places
+_library.cs_compare.restype = _Compared
 
 
 def _numbers(*numbers):
@@ -71,3 +84,17 @@ def join(order, stamp, length, tray):
     if found.number != 0:
         raise Refused(found.number, str(found))
     return bytes(room), found
+
+
+def compare(order, first, second):
+    """A Difference for each word in which two trays differ, in rising order of slot, block and word."""
+    numbers = _numbers(*order)
+    # a place for every word of a tray, so that it is never too short
+    places = (_Place * (len(first) // 2))()
+    compared = _library.cs_compare(
+        *numbers, bytes(first), len(first), bytes(second), len(second), places, len(places)
+    )
+    if compared.number != 0:
+        raise Refused(compared.number, f"number {compared.number}")
+    found = places[: compared.count]
+    return [Difference(*(getattr(place, name) for name in Difference._fields)) for place in found]

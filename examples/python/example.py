@@ -1,5 +1,5 @@
 """Csalgodes from Python: cuts a secret for seven keepers, loses one letter, takes another from a liar,
-and joins. Then too many letters are lost, and the join refuses.
+sees by comparing which slots changed, and joins. Then too many letters are lost, and the join refuses.
 
     LD_LIBRARY_PATH=target/library python3 examples/python/example.py
 """
@@ -7,7 +7,7 @@ and joins. Then too many letters are lost, and the join refuses.
 import secrets
 import sys
 
-from csalgodes import SLOT, Order, Refused, cut, join
+from csalgodes import SLOT, Order, Refused, compare, cut, join
 
 ORDER = Order(t=2, f=1, n=7)
 STAMP = 1
@@ -24,6 +24,11 @@ def cut_new():
     # randbelow draws again rather than favour some words
     words = [secrets.randbelow(257) for _ in range(LENGTH * ORDER.t)]
     return secret, cut(ORDER, STAMP, secret, words)
+
+
+def compare_and_say(before, after):
+    slots = sorted({place.slot for place in compare(ORDER, before, after)})
+    print("compare: slots that changed:", *slots)
 
 
 def join_and_say(tray):
@@ -46,10 +51,12 @@ def main():
     secret, tray = cut_new()
     _, other_tray = cut_new()
     print(f"cut: {LENGTH} bytes into {ORDER.n} letters")
+    as_cut = bytes(tray)
 
     # Keeper 3 lies with a letter of another cut, which every check takes for good.
     tray[slot(3)] = other_tray[slot(3)]
     tray[slot(5)] = bytes(SLOT)
+    compare_and_say(as_cut, tray)
     if join_and_say(tray) != secret:
         sys.exit("the secret did not come back")
     print("the secret came back")

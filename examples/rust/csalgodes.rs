@@ -1,7 +1,7 @@
-//! Csalgodes for Rust: the calls that cut and join, with slices in and out.
+//! Csalgodes for Rust: the calls that cut, join and compare, with slices in and out.
 //!
 //! A slice is there and is never NULL, and one that may be written overlaps no other. That is all
-//! the C header asks of a caller, so both calls are safe whatever they are given.
+//! the C header asks of a caller, so these calls are safe whatever they are given.
 
 use std::fmt;
 
@@ -36,6 +36,23 @@ impl fmt::Display for Found {
     }
 }
 
+/// A place where two trays differ, and the word that each has there.
+#[derive(Clone, Default)]
+#[repr(C)]
+pub struct Difference {
+    pub slot: u16,
+    pub block: u16,
+    pub word: u16,
+    pub first: u16,
+    pub second: u16,
+}
+
+#[repr(C)]
+struct Compared {
+    number: u32,
+    count: u32,
+}
+
 #[link(name = "csalgodes", kind = "static")]
 #[rustfmt::skip]
 extern "C" {
@@ -51,6 +68,13 @@ extern "C" {
         tray: *const u8, tray_length: usize,
         room: *mut u8, room_length: usize,
     ) -> Found;
+
+    fn cs_compare(
+        t: u32, f: u32, n: u32,
+        first: *const u8, first_length: usize,
+        second: *const u8, second_length: usize,
+        list: *mut Difference, list_count: usize,
+    ) -> Compared;
 }
 
 /// Cuts a secret into the tray, or gives the number of the refusal.
@@ -84,5 +108,25 @@ pub fn join(
     match unsafe { cs_join(t, f, n, stamp, length, slots, size, to, space) } {
         found if found.number == 0 => Ok(found),
         refusal => Err(refusal),
+    }
+}
+
+/// Every place where two trays differ, in rising order, or the number of the refusal.
+pub fn compare(
+    Order { t, f, n }: Order,
+    first: &[u8],
+    second: &[u8],
+) -> Result<Vec<Difference>, u32> {
+    // a place for every word of a tray, so that it is never too short
+    let mut list = vec![Difference::default(); first.len() / 2];
+    let (one, one_length) = (first.as_ptr(), first.len());
+    let (other, other_length) = (second.as_ptr(), second.len());
+    let (places, count) = (list.as_mut_ptr(), list.len());
+    match unsafe { cs_compare(t, f, n, one, one_length, other, other_length, places, count) } {
+        Compared { number: 0, count } => {
+            list.truncate(count as usize);
+            Ok(list)
+        }
+        Compared { number, .. } => Err(number),
     }
 }

@@ -1,11 +1,12 @@
 //! Csalgodes from Rust: cuts a secret for seven keepers, loses one letter, takes another from a
-//! liar, and joins. Then too many letters are lost, and the join refuses.
+//! liar, sees by comparing which slots changed, and joins. Then too many letters are lost, and the
+//! join refuses.
 //!
 //!     rustc --edition 2021 -L target/library examples/rust/example.rs
 
 mod csalgodes;
 
-use csalgodes::{cut, join, Order, SLOT};
+use csalgodes::{compare, cut, join, Order, SLOT};
 use std::{error::Error, fs::File, io, io::Read, ops::Range};
 
 const ORDER: Order = Order { t: 2, f: 1, n: 7 };
@@ -42,6 +43,17 @@ fn cut_new(tray: &mut [u8]) -> Result<[u8; LENGTH], Box<dyn Error>> {
     Ok(secret)
 }
 
+/// Says in which slots two trays differ.
+fn compare_and_say(before: &[u8], after: &[u8]) -> Result<(), Box<dyn Error>> {
+    let differences =
+        compare(ORDER, before, after).map_err(|number| format!("compare: number {number}"))?;
+    let mut slots: Vec<_> = differences.iter().map(|place| place.slot.to_string()).collect();
+    // in rising order, so those of a slot stand together
+    slots.dedup();
+    println!("compare: slots that changed: {}", slots.join(" "));
+    Ok(())
+}
+
 /// Joins, and says what was found. None if the join was refused.
 fn join_and_say(tray: &[u8]) -> Option<[u8; LENGTH]> {
     let mut room = [0; LENGTH];
@@ -67,10 +79,12 @@ fn main() -> Result<(), Box<dyn Error>> {
     let secret = cut_new(&mut tray)?;
     cut_new(&mut other_tray)?;
     println!("cut: {LENGTH} bytes into {} letters", ORDER.n);
+    let as_cut = tray;
 
     // Keeper 3 lies with a letter of another cut, which every check takes for good.
     tray[slot(3)].copy_from_slice(&other_tray[slot(3)]);
     tray[slot(5)].fill(0);
+    compare_and_say(&as_cut, &tray)?;
     if join_and_say(&tray) != Some(secret) {
         return Err("the secret did not come back".into());
     }
