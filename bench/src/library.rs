@@ -25,6 +25,25 @@ struct ReadResult {
     length: u32,
 }
 
+/// What a comparison found.
+#[derive(Clone, Default, PartialEq)]
+#[repr(C)]
+pub struct Compared {
+    pub number: u32,
+    pub count: u32,
+}
+
+/// A place where two trays differ, and the word that each has there.
+#[derive(Clone, Copy, PartialEq)]
+#[repr(C)]
+pub struct Difference {
+    pub slot: u16,
+    pub block: u16,
+    pub word: u16,
+    pub first: u16,
+    pub second: u16,
+}
+
 impl From<JoinResult> for Joined {
     fn from(result: JoinResult) -> Joined {
         let JoinResult { number, usable, need, set } = result;
@@ -43,7 +62,7 @@ impl From<ReadResult> for Result<Head, Fault> {
 }
 
 macro_rules! calls {
-    ($library:ident, $cut:literal, $join:literal, $read:literal) => {
+    ($library:ident, $cut:literal, $join:literal, $read:literal, $compare:literal) => {
         pub mod $library {
             use super::*;
 
@@ -77,6 +96,19 @@ macro_rules! calls {
 
                 #[link_name = $read]
                 fn cs_read(slot: *const u8, slot_length: usize) -> ReadResult;
+
+                #[link_name = $compare]
+                fn cs_compare(
+                    t: u32,
+                    f: u32,
+                    n: u32,
+                    first: *const u8,
+                    first_length: usize,
+                    second: *const u8,
+                    second_length: usize,
+                    list: *mut Difference,
+                    list_count: usize,
+                ) -> Compared;
             }
 
             pub fn cut(
@@ -124,10 +156,35 @@ macro_rules! calls {
                 // SAFETY: as in the cut.
                 unsafe { cs_read(slot.as_ptr(), slot.len()) }.into()
             }
+
+            pub fn compare(
+                Order { t, f, n }: Order,
+                first: &[u8],
+                second: &[u8],
+                list: &mut [Difference],
+            ) -> Compared {
+                let (first, first_length) = (first.as_ptr(), first.len());
+                let (second, second_length) = (second.as_ptr(), second.len());
+                let (list, list_count) = (list.as_mut_ptr(), list.len());
+                // SAFETY: as in the cut.
+                unsafe {
+                    cs_compare(
+                        t,
+                        f,
+                        n,
+                        first,
+                        first_length,
+                        second,
+                        second_length,
+                        list,
+                        list_count,
+                    )
+                }
+            }
         }
     };
 }
 
-calls!(plain, "cs_cut", "cs_join", "cs_read");
+calls!(plain, "cs_cut", "cs_join", "cs_read", "cs_compare");
 #[cfg(target_arch = "x86_64")]
-calls!(v3, "v3_cs_cut", "v3_cs_join", "v3_cs_read");
+calls!(v3, "v3_cs_cut", "v3_cs_join", "v3_cs_read", "v3_cs_compare");

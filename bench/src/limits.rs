@@ -1,10 +1,11 @@
 //! The limits we hold ourselves to. They are of the library as compiled for any processor of the machine's
 //! kind, beside the others compiled alike.
 
+use crate::comparing::MEMCMP;
 use crate::gfshare::LENT;
 use crate::numbers::{ratio, time};
 use crate::programs::SECOND;
-use crate::race::Race;
+use crate::race::{Best, Race};
 use crate::races::Races;
 
 pub struct Limit {
@@ -14,19 +15,31 @@ pub struct Limit {
 }
 
 pub fn limits(races: &Races) -> Vec<Limit> {
+    let equal = races.equal.library();
     vec![
-        at_most(1.5, "cut", &races.cut),
+        beside_second(1.5, "cut", &races.cut),
         less_than_gfshare(&races.cut),
-        at_most(2.0, "join, all letters good", &races.good),
+        beside_second(2.0, "join, all letters good", &races.good),
         under(5, "join, three liars in the last word", &races.liars),
         under(20, "join, t=7, three liars, answer 7", &races.too_many),
+        at_most(3.0, "compare, equal trays", equal, MEMCMP, races.equal.of(MEMCMP)),
+        beside_equal("compare, 100 words differ, over the whole tray", &races.spread, equal),
+        beside_equal("compare, 100 words differ, in one slot", &races.one_slot, equal),
     ]
 }
 
-fn at_most(times: f64, work: &str, race: &Race) -> Limit {
-    let found = race.library().times(race.of(SECOND));
-    let says = format!("{work}: at most {times} times the second program");
+fn at_most(times: f64, work: &str, own: &Best, whom: &str, other: &Best) -> Limit {
+    let found = own.times(other);
+    let says = format!("{work}: at most {times} times {whom}");
     Limit { says, measured: format!("{} times", ratio(found)), met: found <= times }
+}
+
+fn beside_second(times: f64, work: &str, race: &Race) -> Limit {
+    at_most(times, work, race.library(), "the second program", race.of(SECOND))
+}
+
+fn beside_equal(work: &str, race: &Race, equal: &Best) -> Limit {
+    at_most(2.0, work, race.library(), "equal trays", equal)
 }
 
 fn less_than_gfshare(race: &Race) -> Limit {

@@ -6,7 +6,7 @@ use second::join::Joined;
 use second::letter::{Fault, Head};
 use second::order::Order;
 
-use crate::library::plain;
+use crate::library::{plain, Compared, Difference};
 #[cfg(target_arch = "x86_64")]
 use crate::v3;
 
@@ -17,6 +17,7 @@ pub const SECOND: &str = "second program";
 pub type CutCall = fn(Order, u32, &[u8], &[u16], &mut [u8]) -> u32;
 pub type JoinCall = fn(Order, u32, u32, &[u8], &mut [u8]) -> Joined;
 pub type ReadCall = fn(&[u8]) -> Result<Head, Fault>;
+pub type CompareCall = fn(Order, &[u8], &[u8], &mut [Difference]) -> Compared;
 
 pub struct Program {
     pub name: &'static str,
@@ -24,14 +25,22 @@ pub struct Program {
     pub join: JoinCall,
     /// The second program's best loops read no letter by itself.
     pub read: Option<ReadCall>,
+    /// The library alone is raced beside memcmp.
+    pub compare: Option<CompareCall>,
 }
 
 pub fn programs() -> Vec<Program> {
     // elsewhere the module's cs_read hands its result over in x86-64's way, and must not be called
     let read = cfg!(target_arch = "x86_64").then_some(plain::read as ReadCall);
     let mut programs = vec![
-        Program { name: LIBRARY, cut: plain::cut, join: plain::join, read },
-        Program { name: SECOND, cut: fast::cut, join: fast::join, read: None },
+        Program {
+            name: LIBRARY,
+            cut: plain::cut,
+            join: plain::join,
+            read,
+            compare: Some(plain::compare),
+        },
+        Program { name: SECOND, cut: fast::cut, join: fast::join, read: None, compare: None },
     ];
     #[cfg(target_arch = "x86_64")]
     programs.extend(v3::programs());

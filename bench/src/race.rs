@@ -13,7 +13,8 @@ const SLICE: f64 = 0.004;
 pub trait Side {
     fn name(&self) -> &'static str;
 
-    /// The bytes worked on: of the secret, or of the letters where these are read.
+    /// The bytes worked on: of the secret, of the letters where these are read, of one tray where two are
+    /// compared.
     fn bytes(&self) -> usize;
 
     /// Before a slice, off the clock: spoils what the last one left.
@@ -25,6 +26,8 @@ pub trait Side {
     /// After a slice, off the clock: whether the work was done, and right.
     fn right(&mut self) -> bool;
 }
+
+pub type Sides<'a> = Vec<Box<dyn Side + 'a>>;
 
 /// The best time of one side, in seconds.
 pub struct Best {
@@ -41,19 +44,37 @@ pub struct Race {
 }
 
 impl Race {
-    pub fn run(work: &'static str, mut sides: Vec<Box<dyn Side + '_>>) -> Race {
-        let mut times = vec![f64::MAX; sides.len()];
+    pub fn run(work: &'static str, sides: Sides) -> Race {
+        let [race] = Race::run_together([(work, sides)]);
+        race
+    }
+
+    /// Pieces of work whose times are compared with each other: a slow spell should hit all of them.
+    pub fn run_together<const WORKS: usize>(
+        mut works: [(&'static str, Sides); WORKS],
+    ) -> [Race; WORKS] {
+        let mut races = works.each_ref().map(|(work, sides)| Race::before(work, sides));
         for depth in 0..SLICES {
-            for (side, time) in sides.iter_mut().zip(&mut times) {
-                *time = deeper(depth, &mut || slice(side.as_mut())).min(*time);
-                assert!(side.right(), "{work}: {} gives a wrong answer", side.name());
+            for ((_, sides), race) in works.iter_mut().zip(&mut races) {
+                race.take_turns(depth, sides);
             }
         }
-        let mut bests = Vec::new();
-        for (side, time) in sides.iter().zip(times) {
+        races
+    }
+
+    fn before(work: &'static str, sides: &Sides) -> Race {
+        let (mut bests, time) = (Vec::new(), f64::MAX);
+        for side in sides {
             bests.push(Best { name: side.name(), bytes: side.bytes(), time });
         }
         Race { work, bests }
+    }
+
+    fn take_turns(&mut self, depth: usize, sides: &mut Sides) {
+        for (side, best) in sides.iter_mut().zip(&mut self.bests) {
+            best.time = deeper(depth, &mut || slice(side.as_mut())).min(best.time);
+            assert!(side.right(), "{}: {} gives a wrong answer", self.work, side.name());
+        }
     }
 
     pub fn library(&self) -> &Best {

@@ -4,6 +4,7 @@ use second::order::Order;
 use second::random::Random;
 
 use crate::case::Case;
+use crate::comparing::{by_memcmp, compares, Trays};
 use crate::programs::LIBRARY_V3;
 use crate::race::Race;
 use crate::sides::{cuts, joins, reads};
@@ -16,6 +17,9 @@ pub struct Races {
     pub too_many: Race,
     /// Where a program can be called to read.
     pub reading: Option<Race>,
+    pub equal: Race,
+    pub spread: Race,
+    pub one_slot: Race,
 }
 
 impl Races {
@@ -32,6 +36,7 @@ impl Races {
         let mut good_joins = joins(&good);
         good_joins.extend([gfshare::combine(&good), ssss::combine(&good)]);
         let reads = reads(&good);
+        let [equal, spread, one_slot] = comparisons(&good);
         Races {
             cut: Race::run("cut, t=3, f=3, n=16", cuts),
             good: Race::run("join, t=3, f=3, n=16, all letters good", good_joins),
@@ -39,6 +44,9 @@ impl Races {
             too_many: Race::run("join, t=7, f=2, n=16, three liars, answer 7", joins(&too_many)),
             reading: (!reads.is_empty())
                 .then(|| Race::run("reading 16 letters, t=3, f=3, n=16", reads)),
+            equal,
+            spread,
+            one_slot,
         }
     }
 
@@ -48,6 +56,22 @@ impl Races {
     }
 
     pub fn all(&self) -> impl Iterator<Item = &Race> {
-        [&self.cut, &self.good, &self.liars, &self.too_many].into_iter().chain(&self.reading)
+        let compared = [&self.equal, &self.spread, &self.one_slot];
+        [&self.cut, &self.good, &self.liars, &self.too_many]
+            .into_iter()
+            .chain(&self.reading)
+            .chain(compared)
     }
+}
+
+fn comparisons(good: &Case) -> [Race; 3] {
+    let equal = Trays::equal(good);
+    let (spread, one_slot) = (Trays::spread(good), Trays::in_one_slot(good));
+    let mut equal_sides = compares(&equal);
+    equal_sides.push(by_memcmp(&equal));
+    Race::run_together([
+        ("compare, n=16, equal trays", equal_sides),
+        ("compare, n=16, 100 words differ, over the whole tray", compares(&spread)),
+        ("compare, n=16, 100 words differ, in one slot", compares(&one_slot)),
+    ])
 }

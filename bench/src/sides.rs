@@ -8,7 +8,7 @@ use second::order::SLOT;
 
 use crate::case::{Case, STAMP};
 use crate::programs::{programs, CutCall, JoinCall, Program, ReadCall};
-use crate::race::Side;
+use crate::race::{Side, Sides};
 
 struct Cut<'a> {
     name: &'static str,
@@ -18,7 +18,7 @@ struct Cut<'a> {
     tray: Vec<u8>,
 }
 
-pub fn cuts(case: &Case) -> Vec<Box<dyn Side + '_>> {
+pub fn cuts(case: &Case) -> Sides<'_> {
     let side = |Program { name, cut: call, .. }| -> Box<dyn Side + '_> {
         Box::new(Cut { name, call, case, number: 1, tray: case.tray.clone() })
     };
@@ -57,7 +57,7 @@ struct Join<'a> {
     room: Vec<u8>,
 }
 
-pub fn joins(case: &Case) -> Vec<Box<dyn Side + '_>> {
+pub fn joins(case: &Case) -> Sides<'_> {
     let side = |Program { name, join: call, .. }| -> Box<dyn Side + '_> {
         Box::new(Join { name, call, case, joined: Joined::default(), room: case.room.clone() })
     };
@@ -99,7 +99,7 @@ struct Read<'a> {
 }
 
 /// None where no program can be called to read.
-pub fn reads(case: &Case) -> Vec<Box<dyn Side + '_>> {
+pub fn reads(case: &Case) -> Sides<'_> {
     let tray = &case.tray;
     let plainly = |slot| Letter::read(slot).map(|letter| letter.head);
     let expected: Vec<_> = tray.chunks_exact(SLOT).map(plainly).collect();

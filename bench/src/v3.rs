@@ -17,8 +17,14 @@ pub fn programs() -> Vec<Program> {
         return Vec::new();
     }
     vec![
-        Program { name: LIBRARY_V3, cut: v3::cut, join: v3::join, read: Some(v3::read) },
-        Program { name: SECOND_V3, cut, join, read: None },
+        Program {
+            name: LIBRARY_V3,
+            cut: v3::cut,
+            join: v3::join,
+            read: Some(v3::read),
+            compare: Some(v3::compare),
+        },
+        Program { name: SECOND_V3, cut, join, read: None, compare: None },
     ]
 }
 
