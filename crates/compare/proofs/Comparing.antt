@@ -6,7 +6,6 @@ use mathlib.Core.List.{List, _++_, map}
 use native.Mathlib.Nat.{zero-add}
 use native.Mathlib.Omega.{arith}
 use lib.ListN.{length, take, drop, length-map, length-take}
-use lib.Seq.{take-at}
 use Rattle.lists.specs.Below.{Below}
 use Rattle.lists.specs.Chosen.{chosen, below-chosen}
 use Rattle.lists.specs.ChosenFrom.{chosen-most}
@@ -23,7 +22,7 @@ trays-have-parts facts = record { few = omega (arith, facts); in-first = omega (
 
 module _ (order : Order) {first second old left : List ℕ} {parts : ℕ} (looked : Looked first second (128 * order .n) old left parts) where
   found : take parts left ≡ chosen (partDiffers first second) (from 0 (128 * order .n))
-  found = rw (looked .listed) (take-at _ _ parts (sym (looked .many)))
+  found = looked .listed
 
   -- as many as there are, and no more than there is room for
   pub found-size : parts ≡ length (take parts left)

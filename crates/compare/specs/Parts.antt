@@ -39,10 +39,11 @@ pub record HaveParts (first second : List ℕ) (m : ℕ) : Type 0 where
   pub in-first : 16 * m ≤ length first
   pub in-second : 16 * m ≤ length second
 
--- the parts that differ, laid over the front of a list
+-- so many parts differ, and a list of the length that it had has them in front
 pub record Looked (first second : List ℕ) (m : ℕ) (old left : List ℕ) (parts : ℕ) : Type 0 where
   pub many : parts ≡ length (chosen (partDiffers first second) (from 0 m))
-  pub listed : left ≡ patched old 0 (chosen (partDiffers first second) (from 0 m))
+  pub listed : take parts left ≡ chosen (partDiffers first second) (from 0 m)
+  pub size : length left ≡ length old
 
 -- places laid over a list, each by a rule, from a place of it on, and what comes next behind them
 pub record Laid (rule : ℕ → List ℕ) (old : List (List ℕ)) (at : ℕ) (places : List ℕ) (list : List (List ℕ)) (next : ℕ) : Type 0 where

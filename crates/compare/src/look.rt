@@ -3,17 +3,22 @@ ghost use mathlib.Core.Path.{_≡_};
 ghost use Prim.Native.Nat.{_+_, _*_, _<_, _≤_};
 ghost use lib.ListN.{length};
 ghost use Rattle.lists.specs.Below.{Below};
+ghost use Rattle.lists.specs.Count.{bit};
 ghost use Rattle.compare.specs.Parts.{partDiffers, inPart, inParts, HaveParts, Looked};
 use block::bytes;
 use block::words::same_word;
 
-// Whether part p has other bytes. Most parts are the same, so a part is compared at once, and only one that differs word by word.
-fn part_differs(first: &[u8], second: &[u8], p: usize) -> bool
+// 1 where part p has other bytes, else 0. Most parts are the same, so a part is compared at once, and only one that differs word by word.
+fn part_differs(first: &[u8], second: &[u8], p: usize) -> usize
     requires { ⌜ HaveParts (now first) (now second) (p + 1) ⌝ }
-    ensures { λ r. ⌜ r ≡ partDiffers (now (first .entry)) (now (second .entry)) p ⌝ }
+    ensures { λ r. ⌜ r ≡ bit (partDiffers (now (first .entry)) (now (second .entry)) p) ⌝ }
 {
     let at = 16 * p;
-    !bytes::same(&first[at..at + 16], &second[at..at + 16])
+    if bytes::same(&first[at..at + 16], &second[at..at + 16]) {
+        0
+    } else {
+        1
+    }
 }
 
 // How many words of part p differ.
@@ -46,7 +51,8 @@ pub fn count(first: &[u8], second: &[u8], m: usize, parts: &[u16]) -> usize
     words
 }
 
-// Lists the parts of the first m that differ, and says how many there are.
+// Lists the parts of the first m that differ, and says how many there are. Each part is written down, and the next over it unless it differs: the processor
+// has no branch to guess.
 pub fn look(first: &[u8], second: &[u8], m: usize, parts: &mut [u16]) -> usize
     requires { ⌜ HaveParts (now first) (now second) m ⌝ ∗ ⌜ m ≤ length (now parts) ⌝ }
     ensures { λ r. ⌜ Looked (now (first .entry)) (now (second .entry)) m (now (parts .entry)) (now (parts .exit)) r ⌝ }
@@ -54,12 +60,8 @@ pub fn look(first: &[u8], second: &[u8], m: usize, parts: &mut [u16]) -> usize
     let mut found = 0;
     let mut p = 0;
     while p < m {
-        if !part_differs(first, second, p) {
-            p += 1;
-            continue;
-        }
         parts[found] = p as u16;
-        found += 1;
+        found += part_differs(first, second, p);
         p += 1;
     }
     found

@@ -1,12 +1,12 @@
 -- `compare::look::look` meets its contract, part by part.
 -- Assumes nothing.
-use Prim.Native.Nat.{_-_, _≤_}
-use mathlib.Core.Path.{_≡_, sym, _∙_}
+use Prim.Native.Nat.{_+_, _-_, _≤_}
+use mathlib.Core.Path.{_≡_}
 use native.Mathlib.Omega.{arith}
+use lib.ListN.{set}
 use borrow.Author.Needs.{needs}
-use borrow.Author.Tests.{not-true, not-false}
 use Rattle.compare.specs.Parts.{Looked}
-use Rattle.compare.proofs.Looking.{looked-none, looked-parts, looked-size, looked-same, looked-other}
+use Rattle.compare.proofs.Looking.{looked-none, looked-parts, looked-next}
 use Rattle.compare.proofs.look.look.Statement.{statement}
 use Rattle.compare.proofs.look.look.Tie as tie
 
@@ -19,8 +19,29 @@ abbrev μ-loop : tie.MeasureT-loop
 loop-holds : tie.Need-loop-holds Inv-loop μ-loop
 loop-holds c = (omega arith, looked-none)
 
+cast-parts : tie.Need-cast-parts Inv-loop μ-loop
+cast-parts c = search needs
+
+mul-parts : tie.Need-mul-parts Inv-loop μ-loop
+mul-parts c = omega (arith, looked-parts (c .before .loop .inv .1))
+
+slice-write-parts : tie.Need-slice-write-parts Inv-loop μ-loop
+slice-write-parts c = omega (arith, looked-parts (c .before .loop .inv .1), c .before .loop .inv .1 .size)
+
 part-differs-requires : tie.Need-part-differs-requires Inv-loop μ-loop
 part-differs-requires c κs = search needs
+
+-- a turn
+next : (c : tie.After-part-differs Inv-loop μ-loop)
+    → let here = c .before .before .loop in
+    let args = c .before .before .before .before .before .before .args in
+    Looked (args .first .now) (args .second .now) (here .p + 1) (args .parts .now) (set (here .parts) (here .found) (here .p)) (here .found + c .part-differs .result)
+next c =
+    let before = c .before .before .loop .inv .1 in
+    looked-next before (omega (arith, looked-parts before, before .size)) (c .part-differs .ensures)
+
+add-found : tie.Need-add-found Inv-loop μ-loop
+add-found c = omega (arith, looked-parts (next c))
 
 add-p : tie.Need-add-p Inv-loop μ-loop
 add-p c = search needs
@@ -29,37 +50,15 @@ loop-less : tie.Need-loop-less Inv-loop μ-loop
 loop-less c = search needs
 
 loop-again : tie.Need-loop-again Inv-loop μ-loop
-loop-again c = (omega arith, looked-same (c .before .before .before .loop .inv .1) (sym (c .before .part-differs .ensures) ∙ not-true _ (c .if1 .taken)))
-
-cast-parts : tie.Need-cast-parts Inv-loop μ-loop
-cast-parts c = search needs
-
-mul-parts : tie.Need-mul-parts Inv-loop μ-loop
-mul-parts c = omega (arith, looked-parts (c .before .before .before .loop .inv .1))
-
-slice-write-parts : tie.Need-slice-write-parts Inv-loop μ-loop
-slice-write-parts c = omega (arith, looked-parts (c .before .before .before .loop .inv .1), looked-size (c .before .before .before .loop .inv .1) (omega arith))
-
-add-found : tie.Need-add-found Inv-loop μ-loop
-add-found c = omega (arith, looked-parts (c .before .before .before .loop .inv .1))
-
-add-p-2 : tie.Need-add-p-2 Inv-loop μ-loop
-add-p-2 c = search needs
-
-loop-less-2 : tie.Need-loop-less-2 Inv-loop μ-loop
-loop-less-2 c = search needs
-
-loop-again-2 : tie.Need-loop-again-2 Inv-loop μ-loop
-loop-again-2 c = (omega arith, looked-other (c .before .before .before .loop .inv .1) (sym (c .before .part-differs .ensures) ∙ not-false _ (c .if1 .left)) (omega arith))
+loop-again c = (omega arith, next c)
 
 same-length : tie.Need-same-length Inv-loop μ-loop
-same-length c = looked-size (c .before .loop .inv .1) (omega arith)
+same-length c = c .before .loop .inv .1 .size
 
 returns : tie.Need-returns Inv-loop μ-loop
 returns c =
-    let here = c .before .loop in
-    let all : here .p ≡ c .before .before .before .before .before .args .m = omega arith in
-    rw all at (here .inv .1)
+    let all : c .before .loop .p ≡ c .before .before .before .before .before .args .m = omega arith in
+    rw all at (c .before .loop .inv .1)
 
 pub look-spec : {M : Type 1} → statement M
 look-spec =
@@ -68,16 +67,13 @@ look-spec =
     Inv-loop
     μ-loop
     loop-holds
-    part-differs-requires
-    add-p
-    loop-less
-    loop-again
     cast-parts
     mul-parts
     slice-write-parts
+    part-differs-requires
     add-found
-    add-p-2
-    loop-less-2
-    loop-again-2
+    add-p
+    loop-less
+    loop-again
     same-length
     returns)

@@ -1,7 +1,7 @@
 -- `compare::look::part_differs` meets its contract: the parts lent are sixteen bytes long.
 -- Assumes nothing.
 use Prim.Native.Nat.{_+_, _-_, _*_}
-use mathlib.Core.Path.{_≡_}
+use mathlib.Core.Path.{_≡_, sym, _∙_}
 use native.Mathlib.Omega.{arith}
 use borrow.Author.Needs.{needs}
 use Rattle.compare.specs.Parts.{partDiffers}
@@ -41,9 +41,16 @@ same-requires c κs = search needs
 returns : tie.Need-returns
 unfolding partDiffers
 returns c =
-    let at = 16 * c .before .before .before .before .before .args .p in
+    let at = 16 * c .before .before .before .before .before .before .args .p in
     let whole : at + 16 - at ≡ 16 = omega arith in
-    rw (c .same .ensures, whole)
+    rw (rw whole at (sym (c .before .same .ensures) ∙ c .if1 .taken))
+
+returns-2 : tie.Need-returns-2
+unfolding partDiffers
+returns-2 c =
+    let at = 16 * c .before .before .before .before .before .before .args .p in
+    let whole : at + 16 - at ≡ 16 = omega arith in
+    rw (rw whole at (sym (c .before .same .ensures) ∙ c .if1 .left))
 
 pub part-differs-spec : {M : Type 1} → statement M
 part-differs-spec =
@@ -59,4 +66,5 @@ part-differs-spec =
     part-same-start-2
     part-same-end-2
     same-requires
-    returns)
+    returns
+    returns-2)
