@@ -1,4 +1,4 @@
-// Words of two bytes, high byte first: read one, write a run, read a run.
+// Words of two bytes, high byte first: read one, compare one, write a run, read a run.
 ghost use mathlib.Core.Path.{_≡_};
 ghost use Prim.Native.Nat.{_+_, _*_, _/_, _%_, _<_, _≤_};
 ghost use lib.Dec.{eqb};

@@ -51,8 +51,8 @@ pub fn count(first: &[u8], second: &[u8], m: usize, parts: &[u16]) -> usize
     words
 }
 
-// Lists the parts of the first m that differ, and says how many there are. Each part is written down, and the next over it unless it differs: the processor
-// has no branch to guess.
+// Lists the parts of the first m that differ, and says how many there are. Every part is written down, and where it does not differ the next is written over
+// it: so the processor has no branch to guess.
 pub fn look(first: &[u8], second: &[u8], m: usize, parts: &mut [u16]) -> usize
     requires { ⌜ HaveParts (now first) (now second) m ⌝ ∗ ⌜ m ≤ length (now parts) ⌝ }
     ensures { λ r. ⌜ Looked (now (first .entry)) (now (second .entry)) m (now (parts .entry)) (now (parts .exit)) r ⌝ }
