@@ -3,4 +3,5 @@ pub mod Judged
 pub mod OutcomeLaws
 pub mod RefusalLaws
 pub mod Revealed
+pub mod Room
 pub mod Scanned

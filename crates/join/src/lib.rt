@@ -6,7 +6,7 @@ ghost use Rattle.lists.specs.KeeperSet.{member};
 ghost use Rattle.field.specs.Modulo.{mod257};
 ghost use Rattle.weigh.specs.Weigh.{rowWord};
 ghost use Rattle.agree.specs.Rows.{Rows};
-ghost use Rattle.join.specs.Join.{answer, Outcome, JoinDone};
+ghost use Rattle.join.specs.Join.{answer, joinRefusal, Outcome, JoinDone};
 use crate::refusal::refusal;
 use crate::secret::reveal;
 use agree::agreement::agreement;
@@ -57,6 +57,22 @@ fn judge(t: usize, f: usize, usable: u16, rows: &[u16], room: &mut [u8]) -> Join
     answer(number, m, need, set)
 }
 
+// The join that nothing forbids, with rows to work in, whatever field words they hold.
+pub fn join_over(
+    o: Order,
+    stamp: u32,
+    l: usize,
+    tray: &[u8],
+    rows: &mut [u16],
+    room: &mut [u8],
+) -> Joined
+    requires { ⌜ joinRefusal o stamp l (now tray) (now room) ≡ 0 ⌝ ∗ ⌜ Rows (now rows) ⌝ }
+    ensures { λ r. ⌜ JoinDone mod257 o stamp l (now (tray .entry)) (now (room .entry)) r (now (room .exit)) × Rows (now (rows .exit)) ⌝ }
+{
+    let usable = scan(o, stamp, l, tray, rows);
+    judge(o.t, o.f, usable, rows, room)
+}
+
 pub fn join(o: Order, stamp: u32, l: usize, tray: &[u8], room: &mut [u8]) -> Joined
     ensures { λ r. ⌜ JoinDone mod257 o stamp l (now (tray .entry)) (now (room .entry)) r (now (room .exit)) ⌝ }
 {
@@ -65,6 +81,5 @@ pub fn join(o: Order, stamp: u32, l: usize, tray: &[u8], room: &mut [u8]) -> Joi
         return answer(number, 0, 0, 0);
     }
     let mut rows = [0u16; 15232];
-    let usable = scan(o, stamp, l, tray, &mut rows);
-    judge(o.t, o.f, usable, &rows, room)
+    join_over(o, stamp, l, tray, &mut rows, room)
 }

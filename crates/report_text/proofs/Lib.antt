@@ -1,4 +1,3 @@
 pub mod JoinedLines
 pub mod KeeperLines
 pub mod Reporting
-pub mod Room

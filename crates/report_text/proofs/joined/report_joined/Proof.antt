@@ -4,7 +4,7 @@ use mathlib.Core.Path.{refl}
 use native.Mathlib.Omega.{arith}
 use borrow.Author.Needs.{needs}
 use Rattle.report_text.specs.Sets.{lines-of-set}
-use Rattle.report_text.proofs.Room.{take-zeros, length-front}
+use Rattle.join.specs.Room.{take-zeros, length-front}
 use Rattle.report_text.proofs.joined.report_joined.Statement.{statement}
 use Rattle.report_text.proofs.joined.report_joined.Tie as tie
 
