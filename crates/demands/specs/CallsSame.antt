@@ -41,9 +41,10 @@ cs-store-same {result = result} {result′} D D′ =
     let same : storedAs result ≡ storedAs result′ = one .0 in
     (λ i. record { number = same i .number; place = same i .place }, one .1)
 
-pub cs-pick-same : (order : Order) (tray : List ℕ) (a b : PickResult) → PickDone order tray (pickedAs a) → PickDone order tray (pickedAs b) → a ≡ b
-cs-pick-same order tray a b D D′ =
-    let same : pickedAs a ≡ pickedAs b = pick-same order tray (pickedAs a) (pickedAs b) D D′ in
+pub cs-pick-same : {O : Ops} → LetterField O → {order : Order} {tray : List ℕ} {result result′ : PickResult}
+    → PickDone O order tray (pickedAs result) → PickDone O order tray (pickedAs result′) → result ≡ result′
+cs-pick-same F {result = result} {result′} D D′ =
+    let same : pickedAs result ≡ pickedAs result′ = pick-same F D D′ in
     λ i. record { number = same i .number; stamp = same i .stamp; length = same i .length }
 
 pub cs-compare-same : {order : Order} {first second : List ℕ} {list left left′ : List (List ℕ)} {result result′ : CompareResult}

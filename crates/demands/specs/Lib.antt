@@ -6,6 +6,8 @@ pub mod Accepted
 pub mod Recovery
 -- "a cut tray must be accepted"
 pub mod Untouched
+-- "a sound, older stamp went unread": it is read
+pub mod OlderWrite
 -- demand 3: t keepers learn nothing of the secret
 pub mod Secrecy
 -- "Any two results allowed by one promise are proved the same"

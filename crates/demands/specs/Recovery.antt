@@ -27,7 +27,7 @@ use Rattle.cut.specs.LetterField.{LetterField, keepers-apart, mod257-letters}
 use Rattle.cut.specs.OneCut.{OneCut}
 use Rattle.join.specs.declared.Joined.{Joined}
 use Rattle.join.specs.Join.{answer, JoinDone}
-use Rattle.demands.specs.Accepted.{Given, zero-agreed, agreed-given}
+use Rattle.demands.specs.Accepted.{SecretAgreed, Given, zero-agreed, agreed-given}
 use Rattle.demands.specs.Altered.{unaltered, unalteredMany, EnoughLeft, AtMostAltered, count-usable}
 use Rattle.demands.specs.JoinAnswers.{cut-not-refused}
 use Rattle.demands.specs.CutPolynomials.{cutPolynomials, constants-cut, polynomials-cut, slot-matches, matches-slot}
@@ -44,6 +44,7 @@ module _ {O : Ops} (F : LetterField O) {order : Order} {stamp : ℕ} {secret ran
   abbrev cut : List ℕ
   cut = cutTray O order stamp secret random
 
+  -- its polynomials
   abbrev ps : List (List ℕ)
   ps = cutPolynomials (order .t) secret random
 
@@ -66,6 +67,16 @@ module _ {O : Ops} (F : LetterField O) {order : Order} {stamp : ℕ} {secret ran
   all-but-f : usableMany order stamp (length secret) tray ≤ count agrees (from 1 (order .n)) + order .f
   all-but-f = omega (arith, count-usable order stamp (length secret) cut tray (from 1 (order .n)), A .few, count-agrees)
 
+  -- what is left of the cut is agreed on
+  pub cut-agreed : Below 256 secret → EnoughLeft order stamp (length secret) cut tray → SecretAgreed O order stamp (length secret) tray ps
+  cut-agreed bytes many = record {
+    reaches = record {
+      polynomials = polynomials-cut F C;
+      enough = ⊎-elim (λ h. omega (arith, all-but-f)) (λ h. omega (arith, all-but-f, count-agrees)) many;
+    };
+    bytes = rw (constants-cut (order .t) secret random) (below-at-most 255 secret bytes);
+  }
+
   module _ {room left : List ℕ} {result : Joined} (D : JoinDone O order stamp (length secret) tray room result left) where
     given-back : Given O order stamp (length secret) tray ps result left → GivesBack order stamp secret cut tray result left
     given-back g = record {
@@ -84,13 +95,7 @@ module _ {O : Ops} (F : LetterField O) {order : Order} {stamp : ℕ} {secret ran
     -- "It gives the right one if m is at least t+2f+1, and also for smaller m if at least t+f+1 usable letters are unaltered."
     pub gives-right : Below 256 secret → length tray ≡ 2048 * order .n → length room ≡ length secret → EnoughLeft order stamp (length secret) cut tray
         → GivesBack order stamp secret cut tray result left
-    gives-right bytes s s′ many = given-back (agreed-given F D (cut-not-refused C tray room s s′) ps (record {
-      reaches = record {
-        polynomials = polynomials-cut F C;
-        enough = ⊎-elim (λ h. omega (arith, all-but-f)) (λ h. omega (arith, all-but-f, count-agrees)) many;
-      };
-      bytes = rw (constants-cut (order .t) secret random) (below-at-most 255 secret bytes);
-    }))
+    gives-right bytes s s′ many = given-back (agreed-given F D (cut-not-refused C tray room s s′) ps (cut-agreed bytes many))
 
 -- The page's case, "modulo the prime 257". What is lent must have its lengths, and the constants be bytes, only where an answer is promised.
 pub demand-2 : {order : Order} {stamp : ℕ} {secret random tray room left : List ℕ} {result : Joined} → OneCut mod257 order stamp secret random

@@ -2,6 +2,7 @@
 -- Assumes nothing.
 use Prim.Native.Nat.{ℕ}
 use mathlib.Core.Path.{_≡_, refl, sym, ap, ap₂, _∙_}
+use mathlib.Core.Bool.{false≢true}
 use mathlib.Core.List.{List, _++_}
 use mathlib.Core.Logic.{inl, inr}
 use native.Mathlib.Nat.{le-antisymm}
@@ -9,6 +10,7 @@ use native.Mathlib.Omega.{arith}
 use lib.ListN.{length, drop}
 use Rattle.algebra.specs.Field.{Ops}
 use Rattle.header.specs.declared.order.Order.{Order}
+use Rattle.header.specs.OrderLaws.{facts-lawful-order}
 use Rattle.format.specs.declared.reader.Reading.{Reading}
 use Rattle.format.specs.Reading.{readOf}
 use Rattle.cut.specs.Cut.{CutDone}
@@ -19,14 +21,17 @@ use Rattle.join.specs.OutcomeLaws.{outcome-same}
 use Rattle.desk.specs.declared.Stored.{Stored}
 use Rattle.desk.specs.Desk.{StoreDone, fetchNumber, fetched}
 use Rattle.pick.specs.declared.Picked.{Picked}
-use Rattle.pick.specs.Pick.{NotAfter, picked, PickDone}
+use Rattle.pick.specs.Pick.{NotBefore, First, picked, PickDone}
 use Rattle.pick.specs.Pick as pick
+use Rattle.pick.specs.JoinGivesLaws.{gives-same}
+use Rattle.pick.specs.PickedLaws.{large-terms}
+use Rattle.pick.specs.RefusalLaws.{pick-facts}
 use Rattle.compare.specs.declared.Compared.{Compared}
 use Rattle.compare.specs.Compare.{CompareDone}
 use Rattle.compare.specs.Compare as compare
 use Rattle.lines.specs.Lines.{answerLine}
 use Rattle.report_text.specs.declared.answer.Answered.{Answered}
-use Rattle.report_text.specs.Report.{orderIn, trayIn, ReportOf, short, unpicked, joined, Reported}
+use Rattle.report_text.specs.Report.{told, ReportOf, short, unpicked, joined, Reported}
 use Rattle.demands.specs.JoinAnswers.{not-refused-order}
 
 -- reading a slot
@@ -75,45 +80,58 @@ compare-same (compare.told e l) (compare.refused h) = absurd (h e)
 compare-same (compare.told e l) (compare.short e′ l′) = absurd (omega arith)
 compare-same (compare.told e l) (compare.told e′ l′) = (refl, refl)
 
--- the pick
-one-group : (s k stamp l : ℕ) → NotAfter s k stamp l → NotAfter stamp l s k → picked 0 s k ≡ picked 0 stamp l
-one-group s k stamp l (inl earlier) (inl later) = absurd (omega arith)
-one-group s k stamp l (inl earlier) (inr same) = absurd (omega arith)
-one-group s k stamp l (inr same) (inl later) = absurd (omega arith)
-one-group s k stamp l (inr one) (inr two) = ap₂ (picked 0) (one .0) (le-antisymm (one .1) (two .1))
+-- the pick: one group comes first, and what its join gives is one number
+first-one : {property : ℕ → ℕ → Type 0} {s k stamp l : ℕ} → First property s k → First property stamp l → (s ≡ stamp) × (k ≡ l)
+first-one {s = s} {k} {stamp} {l} one two = told (two .rest s k (one .has)) (one .rest stamp l (two .has))
+  where
+    told : NotBefore s k stamp l → NotBefore stamp l s k → (s ≡ stamp) × (k ≡ l)
+    told (inl earlier) (inl later) = absurd (omega arith)
+    told (inl earlier) (inr same) = absurd (omega arith)
+    told (inr same) (inl later) = absurd (omega arith)
+    told (inr same) (inr back) = (same .0, le-antisymm (same .1) (back .1))
 
-pub pick-same : (order : Order) (tray : List ℕ) (a b : Picked) → PickDone order tray a → PickDone order tray b → a ≡ b
-pick-same order tray a b (pick.refused p) (pick.refused q) = refl
-pick-same order tray a b (pick.refused p) (pick.none e f) = absurd (p e)
-pick-same order tray a b (pick.refused p) (pick.chosen stamp l e large most) = absurd (p e)
-pick-same order tray a b (pick.none e f) (pick.refused q) = absurd (q e)
-pick-same order tray a b (pick.none e f) (pick.none p g) = refl
-pick-same order tray a b (pick.none e f) (pick.chosen stamp l p large most) = absurd (f stamp l large)
-pick-same order tray a b (pick.chosen s k e large most) (pick.refused q) = absurd (q e)
-pick-same order tray a b (pick.chosen s k e large most) (pick.none p g) = absurd (g s k large)
-pick-same order tray a b (pick.chosen s k e large most) (pick.chosen stamp l p wide greatest) = one-group s k stamp l (greatest s k large) (most stamp l wide)
+pub pick-same : {O : Ops} → LetterField O → {order : Order} {tray : List ℕ} {a b : Picked} → PickDone O order tray a → PickDone O order tray b → a ≡ b
+pick-same F (pick.refused p) (pick.refused q) = refl
+pick-same F (pick.refused p) (pick.none e f) = absurd (p e)
+pick-same F (pick.refused p) (pick.chosen stamp l e first) = absurd (p e)
+pick-same F (pick.refused p) (pick.stuck number stamp l e never first J) = absurd (p e)
+pick-same F (pick.none e f) (pick.refused q) = absurd (q e)
+pick-same F (pick.none e f) (pick.none p g) = refl
+pick-same F (pick.none e f) (pick.chosen stamp l p first) = absurd (f stamp l (first .has .large))
+pick-same F (pick.none e f) (pick.stuck number stamp l p never first J) = absurd (f stamp l (first .has))
+pick-same F (pick.chosen s k e one) (pick.refused q) = absurd (q e)
+pick-same F (pick.chosen s k e one) (pick.none p g) = absurd (g s k (one .has .large))
+pick-same F (pick.chosen s k e one) (pick.chosen stamp l p two) = let same = first-one one two in ap₂ (picked 0) (same .0) (same .1)
+pick-same F (pick.chosen s k e one) (pick.stuck number stamp l p never two J) = absurd (never s k (one .has))
+pick-same F (pick.stuck number s k e never one J) (pick.refused q) = absurd (q e)
+pick-same F (pick.stuck number s k e never one J) (pick.none p g) = absurd (g s k (one .has))
+pick-same F (pick.stuck number s k e never one J) (pick.chosen stamp l p two) = absurd (never stamp l (two .has))
+pick-same F {order} {tray} (pick.stuck number s k e never one J) (pick.stuck number′ stamp l p never′ two J′) =
+    let same = first-one one two in
+    let facts = pick-facts order tray e in
+    let apart = keepers-apart F order (facts-lawful-order order (facts .of-order)) in
+    let numbers = gives-same (large-terms order tray stamp l (two .has)) (facts .slots) (F .laws) apart (rw (same .0, same .1) at J) J′ in
+    λ i. picked (numbers i) (same .0 i) (same .1 i)
 
 -- the report: the bytes, with the number that they end in
 report-of-same : {input bytes bytes′ : List ℕ} {number number′ : ℕ} → ReportOf input number bytes → ReportOf input number′ bytes′
     → (number ≡ number′) × (bytes ≡ bytes′)
 report-of-same (short h) (short h′) = (refl, refl)
-report-of-same (short h) (unpicked number whole D other) = absurd (omega arith)
-report-of-same (short h) (joined stamp l result left whole D J) = absurd (omega arith)
-report-of-same (unpicked number whole D other) (short h) = absurd (omega arith)
-report-of-same {input} (unpicked number whole D other) (unpicked number′ whole′ D′ other′) =
-    let e = ap (λ (p : Picked). p .number) (pick-same (orderIn input) (trayIn input) _ _ D D′) in
-    (e, ap answerLine e)
-report-of-same {input} (unpicked number whole D other) (joined stamp l result left whole′ D′ J) =
-    absurd (other (ap (λ (p : Picked). p .number) (pick-same (orderIn input) (trayIn input) _ _ D D′)))
-report-of-same (joined stamp l result left whole D J) (short h) = absurd (omega arith)
-report-of-same {input} (joined stamp l result left whole D J) (unpicked number whole′ D′ other) =
-    absurd (other (ap (λ (p : Picked). p .number) (pick-same (orderIn input) (trayIn input) _ _ D′ D)))
-report-of-same {input} (joined stamp l result left whole D J) (joined stamp′ l′ result′ left′ whole′ D′ J′) =
-    let one = pick-same (orderIn input) (trayIn input) _ _ D D′ in
-    let stamps : stamp ≡ stamp′ = ap (λ (p : Picked). p .stamp) one in
-    let lengths : l ≡ l′ = ap (λ (p : Picked). p .length) one in
-    let results : result ≡ result′ = join-same mod257-letters (rw (stamps, lengths) at J) J′ .0 in
-    (ap (λ (r : Joined). r .number) results, rw (stamps, lengths, results))
+report-of-same (short h) (unpicked p whole D e) = absurd (omega arith)
+report-of-same (short h) (joined p result left whole D e J) = absurd (omega arith)
+report-of-same (unpicked p whole D e) (short h) = absurd (omega arith)
+report-of-same (unpicked p whole D e) (unpicked p′ whole′ D′ e′) =
+    let same = ap (λ (r : Picked). r .number) (pick-same mod257-letters D D′) in
+    (same, ap answerLine same)
+report-of-same (unpicked p whole D e) (joined p′ result left whole′ D′ e′ J) =
+    absurd (false≢true (sym e ∙ (ap (λ (r : Picked). told (r .number)) (pick-same mod257-letters D D′) ∙ e′)))
+report-of-same (joined p result left whole D e J) (short h) = absurd (omega arith)
+report-of-same (joined p result left whole D e J) (unpicked p′ whole′ D′ e′) =
+    absurd (false≢true (sym e′ ∙ (ap (λ (r : Picked). told (r .number)) (pick-same mod257-letters D′ D) ∙ e)))
+report-of-same (joined p result left whole D e J) (joined p′ result′ left′ whole′ D′ e′ J′) =
+    let one = pick-same mod257-letters D D′ in
+    let results : result ≡ result′ = join-same mod257-letters (rw one at J) J′ .0 in
+    (ap (λ (r : Joined). r .number) results, rw (one, results))
 
 pub report-same : {input before after after′ : List ℕ} {answered answered′ : Answered}
     → Reported input before answered after → Reported input before answered′ after′ → (answered ≡ answered′) × (after ≡ after′)

@@ -1,4 +1,5 @@
-// cs_pick: which stamp and length of a tray to join.
+// cs_pick: which stamp and length of a tray to read.
+ghost use Rattle.field.specs.Modulo.{mod257};
 ghost use Rattle.pick.specs.Pick.{PickDone};
 ghost use Rattle.exports.specs.Told.{orderTold};
 ghost use Rattle.exports.specs.Pick.{pickedAs};
@@ -14,7 +15,7 @@ pub struct PickResult {
 
 #[no_mangle]
 pub extern "C" fn cs_pick(t: u32, f: u32, n: u32, tray: &[u8]) -> PickResult
-    ensures { λ r. ⌜ PickDone (orderTold t f n) (now (tray .entry)) (pickedAs r) ⌝ }
+    ensures { λ r. ⌜ PickDone mod257 (orderTold t f n) (now (tray .entry)) (pickedAs r) ⌝ }
 {
     let picked = pick(order_told(t, f, n), tray);
     PickResult {

@@ -8,9 +8,10 @@ use lib.ListN.{length, getD, set, length-set}
 use lib.Seq.{getD-set-same, getD-set-other}
 use borrow.Author.Count.{below-more}
 use Rattle.header.specs.declared.order.Order.{Order}
-use Rattle.format.specs.Reading.{readOf}
+use Rattle.header.specs.Head.{headOf}
+use Rattle.format.specs.Reading.{blockWords}
 use Rattle.tray.specs.Tray.{slotOf}
-use Rattle.pick.specs.Keys.{keyRead, keyAt, KeysOf}
+use Rattle.pick.specs.Keys.{keySaid, keyAt, KeysOf}
 
 -- the keys of the first k keepers are gathered
 pub record GatheredTo (order : Order) (tray keys₀ keys : List ℕ) (k : ℕ) : Type 0 where
@@ -27,7 +28,7 @@ module _ {order : Order} {tray keys₀ : List ℕ} where
     gathered-all past = record { at = λ j l. before .at j (omega arith) }
 
     pub gathered-next : {slot : List ℕ} {key : ℕ} → k < order .n → order .n ≤ length keys₀ → slot ≡ slotOf tray (k + 1)
-        → key ≡ keyRead order (k + 1) (readOf slot) → GatheredTo order tray keys₀ (set keys k key) (k + 1)
+        → key ≡ keySaid order (k + 1) (headOf (blockWords slot 0)) → GatheredTo order tray keys₀ (set keys k key) (k + 1)
     unfolding keyAt
     gathered-next {slot} {key} within room here read = record {
       reached = omega arith;
@@ -35,5 +36,5 @@ module _ {order : Order} {tray keys₀ : List ℕ} where
       at =
           below-more (λ j. getD (set keys k key) j 0 ≡ keyAt order tray j) k
           (λ j l. getD-set-other keys k j key 0 (λ e. omega arith) ∙ before .at j l)
-          (getD-set-same keys k key 0 (omega (arith, before .size)) ∙ (read ∙ ap (λ s. keyRead order (k + 1) (readOf s)) here));
+          (getD-set-same keys k key 0 (omega (arith, before .size)) ∙ (read ∙ ap (λ s. keySaid order (k + 1) (headOf (blockWords s 0))) here));
     }

@@ -1,6 +1,6 @@
 pub mod Counting
+pub mod Down
 pub mod Gathering
-pub mod Greatest
-pub mod Groups
-pub mod Letters
-pub mod Picking
+pub mod LargeGroups
+pub mod Next
+pub mod Said

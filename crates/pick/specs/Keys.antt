@@ -1,18 +1,18 @@
--- The keys of a tray's letters, and the greatest key of a large group.
+-- The keys of a tray's letters, and the next key of a large group.
 -- Assumes nothing.
 use Prim.Native.Nat.{ℕ, _+_, _-_, _*_, _/_, _%_, _≤_, _<_}
 use mathlib.Core.Path.{_≡_}
-use mathlib.Core.Bool.{Bool, cond, _&&_}
+use mathlib.Core.Bool.{Bool, not, cond, _&&_}
 use mathlib.Core.List.{List}
 use lib.Dec.{eqb, leb, ltb}
-use lib.ListN.{getD}
+use lib.ListN.{length, getD}
 use Rattle.lists.specs.Count.{count}
 use Rattle.lists.specs.From.{from}
 use Rattle.header.specs.declared.order.Order.{Order}
-use Rattle.header.specs.Head.{sameHead}
-use Rattle.format.specs.declared.reader.Reading.{Reading}
-use Rattle.format.specs.declared.reader.Reading.the-variants.{Good, Bad}
-use Rattle.format.specs.Reading.{readOf}
+use Rattle.header.specs.declared.head.Head.{Head}
+use Rattle.header.specs.Head.{lawfulHead, sameHead, headOf}
+use Rattle.header.specs.TermsLaws.{TermsFacts}
+use Rattle.format.specs.Reading.{blockWords}
 use Rattle.tray.specs.Tray.{headFor, slotOf}
 use Rattle.pick.specs.declared.Picked.{Picked}
 use Rattle.pick.specs.Pick.{picked}
@@ -21,14 +21,23 @@ use Rattle.pick.specs.Pick.{picked}
 abbrev pub keyOf : ℕ → ℕ → ℕ
 keyOf stamp l = stamp * 1024 + l
 
--- the key of a good letter of the order and of keeper x, by what the slot reads as; 0 where there is none
-abbrev pub keyRead : Order → ℕ → Reading → ℕ
-keyRead order x (Good h) = cond (sameHead h (headFor order (h .stamp) (h .length) x)) (keyOf (h .stamp) (h .length)) 0
-keyRead order x (Bad number place) = 0
+abbrev pub stampIn : ℕ → ℕ
+stampIn key = key / 1024
 
--- the key in the slot of keeper k + 1
+abbrev pub lengthIn : ℕ → ℕ
+lengthIn key = key % 1024
+
+-- whether a letter of the order and of keeper x may have this head
+unfoldable pub mayHave : Order → ℕ → Head → Bool
+mayHave order x h = lawfulHead h && sameHead h (headFor order (h .stamp) (h .length) x)
+
+-- the key of such a head; 0 of any other
+abbrev pub keySaid : Order → ℕ → Head → ℕ
+keySaid order x h = cond (mayHave order x h) (keyOf (h .stamp) (h .length)) 0
+
+-- the key that the slot of keeper k + 1 says, whether or not the letter is good
 unfoldable pub keyAt : Order → List ℕ → ℕ → ℕ
-keyAt order tray k = keyRead order (k + 1) (readOf (slotOf tray (k + 1)))
+keyAt order tray k = keySaid order (k + 1) (headOf (blockWords (slotOf tray (k + 1)) 0))
 
 pub record KeysOf (order : Order) (tray keys : List ℕ) : Type 0 where
   pub at : (k : ℕ) → k < order .n → getD keys k 0 ≡ keyAt order tray k
@@ -37,15 +46,24 @@ pub record KeysOf (order : Order) (tray keys : List ℕ) : Type 0 where
 unfoldable pub sizeOf : List ℕ → ℕ → ℕ → ℕ
 sizeOf keys n key = count (λ x. eqb (getD keys (x - 1) 0) key) (from 1 n)
 
--- whether a key comes after another and its group is at least so large
-unfoldable pub comesNext : List ℕ → ℕ → ℕ → ℕ → ℕ → Bool
-comesNext keys n least key best = ltb best key && leb least (sizeOf keys n key)
+-- whether a key below a bound comes after another and its group is at least so large
+unfoldable pub comesNext : List ℕ → ℕ → ℕ → ℕ → ℕ → ℕ → Bool
+comesNext keys n least bound key best = ltb best key && (ltb key bound && leb least (sizeOf keys n key))
 
--- the greatest of the first n keys whose group is at least so large; 0 where there is none
-pub record BestOf (keys : List ℕ) (n least best : ℕ) : Type 0 where
-  pub most : (k : ℕ) → k < n → least ≤ sizeOf keys n (getD keys k 0) → getD keys k 0 ≤ best
-  pub large : 1 ≤ best → least ≤ sizeOf keys n best
+-- the greatest of the first n keys below a bound whose group is at least so large; 0 where there is none
+pub record NextOf (keys : List ℕ) (n least bound best : ℕ) : Type 0 where
+  pub most : (k : ℕ) → k < n → getD keys k 0 < bound → least ≤ sizeOf keys n (getD keys k 0) → getD keys k 0 ≤ best
+  pub large : 1 ≤ best → (best < bound) × (least ≤ sizeOf keys n best)
 
--- what the greatest key of a large group answers
-unfoldable pub answerOf : ℕ → Picked
-answerOf best = cond (eqb best 0) (picked 6 0 0) (picked 0 (best / 1024) (best % 1024))
+-- a key of a lawful stamp and length, and a tray of a slot for each keeper
+pub record Joinable (order : Order) (tray : List ℕ) (key : ℕ) : Type 0 where
+  pub terms : TermsFacts order (stampIn key) (lengthIn key)
+  pub slots : length tray ≡ 2048 * order .n
+
+-- whether a group that was tried is the first large one, by the number answered so far
+abbrev pub isFirst : ℕ → ℕ → Bool
+isFirst number tried = eqb number 6 && not (eqb tried 6)
+
+-- a number, with the stamp and the length of a key
+abbrev pub answerOf : ℕ → ℕ → Picked
+answerOf number key = picked number (stampIn key) (lengthIn key)

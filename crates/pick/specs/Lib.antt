@@ -1,4 +1,5 @@
+pub mod JoinGivesLaws
 pub mod Keys
 pub mod Pick
-pub mod RefusalLaws
 pub mod PickedLaws
+pub mod RefusalLaws

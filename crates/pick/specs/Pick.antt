@@ -1,4 +1,4 @@
--- The pick: which stamp and length to join.
+-- The pick: which stamp and length of a tray to read.
 -- Assumes nothing.
 use Prim.Native.Nat.{ℕ, _+_, _*_, _≤_, _<_}
 use mathlib.Core.Path.{_≡_}
@@ -6,20 +6,40 @@ use mathlib.Core.Logic.{_⊎_}
 use mathlib.Core.Bool.{cond}
 use mathlib.Core.List.{List}
 use lib.Dec.{eqb}
-use lib.ListN.{length}
+use lib.ListN.{length, replicate}
+use Rattle.algebra.specs.Field.{Ops}
 use Rattle.header.specs.declared.order.Order.{Order}
 use Rattle.header.specs.Order.{lawfulOrder}
 use Rattle.tray.specs.Tray.{usableMany}
+use Rattle.join.specs.declared.Joined.{Joined}
+use Rattle.join.specs.Join.{JoinDone}
 use Rattle.pick.specs.declared.Picked.{Picked}
 
 -- "Good letters in a tray, of the order and in their own keeper's slot, are grouped by stamp and length": the group is what is usable under them. A
--- "group of at least t+f+1 letters"
+-- group "of at least t+f+1"
 abbrev pub Large : Order → List ℕ → ℕ → ℕ → Type 0
 Large order tray stamp l = order .t + order .f + 1 ≤ usableMany order stamp l tray
 
--- "with the greatest stamp, and of those the greatest length"
-abbrev pub NotAfter : ℕ → ℕ → ℕ → ℕ → Type 0
-NotAfter s k stamp l = (s < stamp) ⊎ ((s ≡ stamp) × (k ≤ l))
+-- what the join of a group gives: the number that the join promises for its stamp and length, in a room of l zeros
+pub record JoinGives (O : Ops) (order : Order) (tray : List ℕ) (stamp l number : ℕ) : Type 0 where
+  pub result : Joined
+  pub left : List ℕ
+  pub done : JoinDone O order stamp l tray (replicate l 0) result left
+  pub numbered : result .number ≡ number
+
+-- a group of at least t+f+1 "whose join gives 0"
+pub record Joining (O : Ops) (order : Order) (tray : List ℕ) (stamp l : ℕ) : Type 0 where
+  pub large : Large order tray stamp l
+  pub joins : JoinGives O order tray stamp l 0
+
+-- "greatest stamp first, then greatest length": s and k do not come before stamp and l
+abbrev pub NotBefore : ℕ → ℕ → ℕ → ℕ → Type 0
+NotBefore s k stamp l = (s < stamp) ⊎ ((s ≡ stamp) × (k ≤ l))
+
+-- the first, in that order, of all that have a property
+pub record First (property : ℕ → ℕ → Type 0) (stamp l : ℕ) : Type 0 where
+  pub has : property stamp l
+  pub rest : (s k : ℕ) → property s k → NotBefore s k stamp l
 
 -- the refusals that need no letter: 1, 4
 unfoldable pub pickRefusal : Order → List ℕ → ℕ
@@ -29,9 +49,11 @@ pickRefusal order tray = cond (lawfulOrder order) (cond (eqb (length tray) (2048
 abbrev pub picked : ℕ → ℕ → ℕ → Picked
 picked number stamp l = record { number = number; stamp = stamp; length = l }
 
--- the pick's promise: a refusal; no large group; or the large group that no other comes after
-pub data PickDone (order : Order) (tray : List ℕ) : Picked → Type 0 where
-  refused : (pickRefusal order tray ≡ 0 → ⊥) → PickDone order tray (picked (pickRefusal order tray) 0 0)
-  none : pickRefusal order tray ≡ 0 → ((stamp l : ℕ) → Large order tray stamp l → ⊥) → PickDone order tray (picked 6 0 0)
-  chosen : (stamp l : ℕ) → pickRefusal order tray ≡ 0 → Large order tray stamp l
-      → ((s k : ℕ) → Large order tray s k → NotAfter s k stamp l) → PickDone order tray (picked 0 stamp l)
+-- The pick's promise: a refusal; 6 where no group is large; the first of the large groups "whose join gives 0"; or, "if there are groups and none
+-- joins", "the number of the greatest group's join with its stamp and length".
+pub data PickDone (O : Ops) (order : Order) (tray : List ℕ) : Picked → Type 0 where
+  refused : (pickRefusal order tray ≡ 0 → ⊥) → PickDone O order tray (picked (pickRefusal order tray) 0 0)
+  none : pickRefusal order tray ≡ 0 → ((stamp l : ℕ) → Large order tray stamp l → ⊥) → PickDone O order tray (picked 6 0 0)
+  chosen : (stamp l : ℕ) → pickRefusal order tray ≡ 0 → First (Joining O order tray) stamp l → PickDone O order tray (picked 0 stamp l)
+  stuck : (number stamp l : ℕ) → pickRefusal order tray ≡ 0 → ((s k : ℕ) → Joining O order tray s k → ⊥) → First (Large order tray) stamp l
+      → JoinGives O order tray stamp l number → PickDone O order tray (picked number stamp l)

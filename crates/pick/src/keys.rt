@@ -2,11 +2,12 @@
 ghost use mathlib.Core.Path.{_≡_};
 ghost use Prim.Native.Nat.{_*_, _≤_};
 ghost use lib.ListN.{length};
-ghost use Rattle.format.specs.Reading.{readOf};
-ghost use Rattle.pick.specs.Keys.{keyOf, keyRead, KeysOf};
-use format::reader::Reading;
-use format::reader::read;
+ghost use Rattle.header.specs.Head.{headOf};
+ghost use Rattle.format.specs.Reading.{blockWords};
+ghost use Rattle.pick.specs.Keys.{keyOf, mayHave, keySaid, KeysOf};
 use header::head;
+use header::head::Head;
+use header::head::head_of;
 use header::order::Order;
 use tray::head_for;
 use tray::slot_of;
@@ -18,14 +19,20 @@ fn key_of(stamp: u32, l: usize) -> u64
     stamp as u64 * 1024 + l as u64
 }
 
-// The key of a good letter of the order and of keeper x; 0 where the slot has no such letter.
-fn key_in(slot: &[u8], o: Order, x: usize) -> u64
-    ensures { λ r. ⌜ r ≡ keyRead o x (readOf (now (slot .entry))) ⌝ }
+// Whether a letter of the order and of keeper x may have this head.
+fn may_have(o: Order, x: usize, h: Head) -> bool
+    ensures { λ r. ⌜ r ≡ mayHave o x h ⌝ }
 {
-    let Reading::Good(h) = read(slot) else {
-        return 0;
-    };
-    if head::same(h, head_for(o, h.stamp, h.length, x)) {
+    head::lawful(h) && head::same(h, head_for(o, h.stamp, h.length, x))
+}
+
+// The key that the head of a slot says; 0 where no letter of the order and of keeper x may have it. The rest of the slot is not read.
+fn key_in(slot: &[u8], o: Order, x: usize) -> u64
+    requires { ⌜ length (now slot) ≡ 2048 ⌝ }
+    ensures { λ r. ⌜ r ≡ keySaid o x (headOf (blockWords (now (slot .entry)) 0)) ⌝ }
+{
+    let h = head_of(&slot[..512]);
+    if may_have(o, x, h) {
         key_of(h.stamp, h.length)
     } else {
         0

@@ -1,13 +1,18 @@
-// The pick: which stamp and length of a tray to join.
+// The pick: which stamp and length of a tray to read.
 ghost use mathlib.Core.Path.{_≡_};
 ghost use Prim.Native.Nat.{_<_, _≤_};
 ghost use lib.ListN.{length};
-ghost use Rattle.pick.specs.Keys.{sizeOf, comesNext, BestOf, answerOf};
-ghost use Rattle.pick.specs.Pick.{pickRefusal, PickDone};
+ghost use Rattle.field.specs.Modulo.{mod257};
+ghost use Rattle.agree.specs.Rows.{Rows};
+ghost use Rattle.pick.specs.Keys.{stampIn, lengthIn, Joinable, isFirst, KeysOf, answerOf};
+ghost use Rattle.pick.specs.Pick.{pickRefusal, JoinGives, PickDone};
+use crate::groups::next_of;
 use crate::keys::gather;
 use header::order;
 use header::order::Order;
+use join::join_over;
 
+mod groups;
 mod keys;
 
 pub struct Picked {
@@ -26,78 +31,69 @@ fn refusal(o: Order, tray: &[u8]) -> u32
     }
 }
 
-// The size of a key's group: how many of the first n keys it is.
-fn group_size(keys: &[u64], n: usize, key: u64) -> usize
-    requires { ⌜ n ≤ length (now keys) ⌝ }
-    ensures { λ r. ⌜ r ≡ sizeOf (now (keys .entry)) n key ⌝ }
+// A number, with the stamp and the length of a key.
+fn answer(number: u32, key: u64) -> Picked
+    requires { ⌜ key < 4398046511104 ⌝ }
+    ensures { λ r. ⌜ r ≡ answerOf number key ⌝ }
 {
-    let mut size = 0;
-    let mut k = 0;
-    while k < n {
-        if keys[k] == key {
-            size += 1;
-        }
-        k += 1;
-    }
-    size
-}
-
-// Whether a key comes after another and its group is at least so large.
-fn comes_next(keys: &[u64], n: usize, least: usize, key: u64, best: u64) -> bool
-    requires { ⌜ n ≤ length (now keys) ⌝ }
-    ensures { λ r. ⌜ r ≡ comesNext (now (keys .entry)) n least key best ⌝ }
-{
-    best < key && least <= group_size(keys, n, key)
-}
-
-// The greatest of the first n keys whose group is at least so large; 0 where there is none.
-fn best_of(keys: &[u64], n: usize, least: usize) -> u64
-    requires { ⌜ n ≤ length (now keys) ⌝ }
-    ensures { λ r. ⌜ BestOf (now (keys .entry)) n least r ⌝ }
-{
-    let mut best = 0;
-    let mut k = 0;
-    while k < n {
-        let key = keys[k];
-        if comes_next(keys, n, least, key, best) {
-            best = key;
-        }
-        k += 1;
-    }
-    best
-}
-
-// What the greatest key of a large group answers.
-fn answer(best: u64) -> Picked
-    requires { ⌜ best < 4398046511104 ⌝ }
-    ensures { λ r. ⌜ r ≡ answerOf best ⌝ }
-{
-    if best == 0 {
-        return Picked {
-            number: 6,
-            stamp: 0,
-            length: 0,
-        };
-    }
     Picked {
-        number: 0,
-        stamp: (best / 1024) as u32,
-        length: (best % 1024) as usize,
+        number,
+        stamp: (key / 1024) as u32,
+        length: (key % 1024) as usize,
     }
+}
+
+// The number of the join of a key's group, with rows to work in.
+fn joined(o: Order, tray: &[u8], key: u64, rows: &mut [u16]) -> u32
+    requires { ⌜ Joinable o (now tray) key ⌝ ∗ ⌜ Rows (now rows) ⌝ }
+    ensures { λ r. ⌜ JoinGives mod257 o (now (tray .entry)) (stampIn key) (lengthIn key) r × Rows (now (rows .exit)) ⌝ }
+{
+    let mut room = [0u8; 952];
+    let l = (key % 1024) as usize;
+    let done = join_over(o, (key / 1024) as u32, l, tray, rows, &mut room[..l]);
+    done.number
+}
+
+// Whether a group that was tried is the first large one, by the number answered so far: 6, as long as there was none.
+fn is_first(number: u32, tried: u32) -> bool
+    ensures { λ r. ⌜ r ≡ isFirst number tried ⌝ }
+{
+    number == 6 && tried != 6
+}
+
+// Goes down the groups that the keys tell of, to the first that joins. Where none does, the answer is of the first that is large: the join of one that
+// is not says 6.
+fn go_down(o: Order, tray: &[u8], keys: &[u64], rows: &mut [u16]) -> Picked
+    requires { ⌜ pickRefusal o (now tray) ≡ 0 ⌝ ∗ ⌜ KeysOf o (now tray) (now keys) ⌝ ∗ ⌜ o .n ≤ length (now keys) ⌝ ∗ ⌜ Rows (now rows) ⌝ }
+    ensures { λ r. ⌜ PickDone mod257 o (now (tray .entry)) r ⌝ }
+{
+    let least = o.t + o.f + 1;
+    let mut number = 6;
+    let mut top = 0;
+    let mut key = next_of(keys, o.n, least, 4398046511104);
+    while key != 0 {
+        let tried = joined(o, tray, key, rows);
+        if tried == 0 {
+            return answer(0, key);
+        }
+        if is_first(number, tried) {
+            number = tried;
+            top = key;
+        }
+        key = next_of(keys, o.n, least, key);
+    }
+    answer(number, top)
 }
 
 pub fn pick(o: Order, tray: &[u8]) -> Picked
-    ensures { λ r. ⌜ PickDone o (now (tray .entry)) r ⌝ }
+    ensures { λ r. ⌜ PickDone mod257 o (now (tray .entry)) r ⌝ }
 {
     let number = refusal(o, tray);
     if number != 0 {
-        return Picked {
-            number,
-            stamp: 0,
-            length: 0,
-        };
+        return answer(number, 0);
     }
     let mut keys = [0u64; 16];
     gather(o, tray, &mut keys);
-    answer(best_of(&keys, o.n, o.t + o.f + 1))
+    let mut rows = [0u16; 15232];
+    go_down(o, tray, &keys, &mut rows)
 }

@@ -2,20 +2,21 @@
 -- Assumes nothing.
 use Prim.Native.Nat.{ℕ, _-_, _<_, _≤_}
 use mathlib.Core.Path.{_≡_, _∙_}
+use mathlib.Core.Bool.{true, false}
 use mathlib.Core.List.{List}
 use native.Mathlib.Nat.{zero-add}
 use native.Mathlib.Omega.{arith}
 use lib.ListN.{length, take, drop, length-drop}
 use lib.Seq.{take-all}
+use Rattle.field.specs.Modulo.{mod257}
 use Rattle.lines.specs.Lines.{answerLine}
 use Rattle.header.specs.declared.order.Order.{Order}
 use Rattle.pick.specs.declared.Picked.{Picked}
 use Rattle.pick.specs.Pick.{PickDone}
 use Rattle.report_text.specs.declared.answer.Answered.{Answered}
 use Rattle.report_text.specs.Joined.{JoinedReported}
-use Rattle.report_text.specs.PickedLaws.{none-picked, one-picked}
 use Rattle.report_text.specs.Placed.{Placed}
-use Rattle.report_text.specs.Report.{orderIn, trayIn, ReportOf, short, unpicked, joined, Reported}
+use Rattle.report_text.specs.Report.{told, orderIn, trayIn, ReportOf, short, unpicked, joined, Reported}
 
 -- a part up to the end is all that follows
 pub all-of : (xs : List ℕ) (n : ℕ) → take (length xs - n) (drop n xs) ≡ drop n xs
@@ -26,7 +27,7 @@ pub record PickedOf (input : List ℕ) (order : Order) (tray : List ℕ) (p : Pi
   pub whole : 3 ≤ length input
   pub of : order ≡ orderIn input
   pub in-it : tray ≡ trayIn input
-  pub pick : PickDone order tray p
+  pub pick : PickDone mod257 order tray p
 
 module _ {input before after : List ℕ} {answered : Answered} where
   reported : {number : ℕ} {bytes : List ℕ} → ReportOf input number bytes → Placed number bytes before answered after → Reported input before answered after
@@ -38,10 +39,10 @@ module _ {input before after : List ℕ} {answered : Answered} where
   short-reported few p = reported (short few) p
 
   module _ {order : Order} {tray : List ℕ} {p : Picked} (c : PickedOf input order tray p) where
-    pub unpicked-reported : (p .number ≡ 0 → ⊥) → Placed (p .number) (answerLine (p .number)) before answered after → Reported input before answered after
-    unpicked-reported other w = reported (unpicked (p .number) (c .whole) (rw (c .of, c .in-it) at (none-picked (c .pick) other)) other) w
+    pub unpicked-reported : told (p .number) ≡ false → Placed (p .number) (answerLine (p .number)) before answered after → Reported input before answered after
+    unpicked-reported e w = reported (unpicked p (c .whole) (rw (c .of, c .in-it) at (c .pick)) e) w
 
-    pub joined-reported : p .number ≡ 0 → JoinedReported order (p .stamp) (p .length) tray before answered after → Reported input before answered after
+    pub joined-reported : told (p .number) ≡ true → JoinedReported order (p .stamp) (p .length) tray before answered after → Reported input before answered after
     joined-reported e j =
-        reported (joined (p .stamp) (p .length) (j .result) (j .left) (c .whole) (rw (c .of, c .in-it) at (one-picked (c .pick) e)) (rw (c .of, c .in-it) at (j .done)))
+        reported (joined p (j .result) (j .left) (c .whole) (rw (c .of, c .in-it) at (c .pick)) e (rw (c .of, c .in-it) at (j .done)))
         (rw (c .of, c .in-it) at (j .placed))

@@ -1,30 +1,30 @@
--- What the pick says of a tray: that there is nothing to join, or what there is.
+-- What the pick says of a tray where lines are to be written: that there is a group to join.
 -- Assumes nothing.
-use mathlib.Core.Path.{_≡_, refl}
-use mathlib.Core.List.{List}
-use native.Mathlib.Omega.{arith}
 use Prim.Native.Nat.{ℕ}
+use mathlib.Core.Path.{_≡_}
+use mathlib.Core.Bool.{true, false≢true}
+use mathlib.Core.List.{List}
+use mathlib.Core.Logic.{⊎-elim}
+use Rattle.algebra.specs.Field.{Ops}
 use Rattle.header.specs.declared.order.Order.{Order}
 use Rattle.pick.specs.declared.Picked.{Picked}
-use Rattle.pick.specs.Pick.{picked, PickDone, refused, none, chosen}
-use Rattle.pick.specs.PickedLaws.{large-length}
-use Rattle.pick.specs.RefusalLaws.{pick-facts}
+use Rattle.pick.specs.Pick.{pickRefusal, PickDone, refused, none, chosen, stuck}
+use Rattle.pick.specs.PickedLaws.{picked-length}
+use Rattle.pick.specs.RefusalLaws.{pick-facts, refusal-number}
 use Rattle.report_text.specs.Joined.{Joinable}
+use Rattle.report_text.specs.Report.{told}
 
-module _ {order : Order} {tray : List ℕ} where
-  pub none-picked : {p : Picked} → PickDone order tray p → (p .number ≡ 0 → ⊥) → PickDone order tray (picked (p .number) 0 0)
-  none-picked (refused h) other = refused h
-  none-picked (none e h) other = none e h
-  none-picked (chosen stamp l e large most) other = absurd (other refl)
+module _ {O : Ops} {order : Order} {tray : List ℕ} where
+  not-refused : {p : Picked} → PickDone O order tray p → told (p .number) ≡ true → pickRefusal order tray ≡ 0
+  not-refused (refused h) e =
+      absurd (⊎-elim
+      (λ (one : pickRefusal order tray ≡ 1). false≢true (rw one at e))
+      (λ (four : pickRefusal order tray ≡ 4). false≢true (rw four at e)) (refusal-number order tray h))
+  not-refused (none r h) e = r
+  not-refused (chosen stamp l r first) e = r
+  not-refused (stuck number stamp l r never first J) e = r
 
-  pub one-picked : {p : Picked} → PickDone order tray p → p .number ≡ 0 → PickDone order tray (picked 0 (p .stamp) (p .length))
-  one-picked (refused h) e = absurd (h e)
-  one-picked (none r h) e = absurd (omega arith)
-  one-picked (chosen stamp l r large most) e = chosen stamp l r large most
-
-  pub picked-joinable : {p : Picked} → PickDone order tray p → p .number ≡ 0 → Joinable order (p .length) tray
-  picked-joinable (refused h) e = absurd (h e)
-  picked-joinable (none r h) e = absurd (omega arith)
-  picked-joinable (chosen stamp l r large most) e =
-      let facts = pick-facts order tray r in
-      record { few = facts .of-order .n-most; short = large-length order tray stamp l large; slots = facts .slots }
+  pub picked-joinable : {p : Picked} → PickDone O order tray p → told (p .number) ≡ true → Joinable order (p .length) tray
+  picked-joinable D e =
+      let facts = pick-facts order tray (not-refused D e) in
+      record { few = facts .of-order .n-most; short = picked-length D; slots = facts .slots }

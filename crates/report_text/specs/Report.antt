@@ -2,7 +2,7 @@
 -- Assumes nothing.
 use Prim.Native.Nat.{ℕ, suc, _<_, _≤_}
 use mathlib.Core.Path.{_≡_}
-use mathlib.Core.Bool.{Bool, cond, _||_}
+use mathlib.Core.Bool.{Bool, true, false, cond, _||_}
 use mathlib.Core.List.{List, _++_}
 use lib.Count.{ones}
 use lib.Dec.{eqb}
@@ -15,7 +15,8 @@ use Rattle.lines.specs.declared.line.Standing.the-variants.{Absent, Present, Ag
 use Rattle.lines.specs.Lines.{stampLine, keeperLine, countLine, answerLine, wordOf}
 use Rattle.header.specs.declared.order.Order.{Order}
 use Rattle.tray.specs.Tray.{usable}
-use Rattle.pick.specs.Pick.{PickDone, picked}
+use Rattle.pick.specs.declared.Picked.{Picked}
+use Rattle.pick.specs.Pick.{PickDone}
 use Rattle.join.specs.declared.Joined.{Joined}
 use Rattle.join.specs.Join.{JoinDone}
 use Rattle.report_text.specs.declared.answer.Answered.{Answered}
@@ -29,21 +30,17 @@ abbrev pub keeperLines : Order → List ℕ → ℕ → ℕ → Joined → List 
 keeperLines order tray stamp l result =
     pieces (λ k. keeperLine (suc k) (wordOf (standing (result .number) (usable order stamp l tray (suc k)) (member (result .set) (suc k))))) (order .n)
 
--- "The size of the agreement is the number of ones in that set."
-abbrev pub joinedLines : Order → List ℕ → ℕ → ℕ → Joined → List ℕ
-joinedLines order tray stamp l result =
+-- the lines of what was joined; "The size of the agreement is the number of ones in that set."
+unfoldable pub lines : Order → List ℕ → ℕ → ℕ → Joined → List ℕ
+lines order tray stamp l result =
     stampLine stamp l
     ++ (keeperLines order tray stamp l result
     ++ (countLine (result .usable) (result .need) (ones (result .set))
     ++ answerLine (result .number)))
 
--- the numbers with which the lines of the join are written; "For any other number only the last line is written."
+-- the numbers of the pick with which the lines of its group are written; "For any other number only the last line is written."
 abbrev pub told : ℕ → Bool
 told number = eqb number 0 || (eqb number 7 || eqb number 8)
-
--- the lines of what was joined
-unfoldable pub lines : Order → List ℕ → ℕ → ℕ → Joined → List ℕ
-lines order tray stamp l result = cond (told (result .number)) (joinedLines order tray stamp l result) (answerLine (result .number))
 
 -- "three bytes t, f, n"
 abbrev pub orderIn : List ℕ → Order
@@ -53,16 +50,15 @@ orderIn input = record { t = getD input 0 0; f = getD input 1 0; n = getD input 
 abbrev pub trayIn : List ℕ → List ℕ
 trayIn input = drop 3 input
 
--- what the report of an input is, and its number, which the last line has: fewer bytes than an order are answer 4; then the pick, and the join of what
--- it picked
+-- what the report of an input is, and its number, which the last line has: fewer bytes than an order are answer 4; then the pick, and the join of the
+-- group that it names
 pub data ReportOf (input : List ℕ) : ℕ → List ℕ → Type 0 where
   short : length input < 3 → ReportOf input 4 (answerLine 4)
-  unpicked : (number : ℕ) → 3 ≤ length input → PickDone (orderIn input) (trayIn input) (picked number 0 0) → (number ≡ 0 → ⊥)
-      → ReportOf input number (answerLine number)
-  joined : (stamp l : ℕ) (result : Joined) (left : List ℕ) → 3 ≤ length input
-      → PickDone (orderIn input) (trayIn input) (picked 0 stamp l)
-      → JoinDone mod257 (orderIn input) stamp l (trayIn input) (replicate l 0) result left
-      → ReportOf input (result .number) (lines (orderIn input) (trayIn input) stamp l result)
+  unpicked : (p : Picked) → 3 ≤ length input → PickDone mod257 (orderIn input) (trayIn input) p → told (p .number) ≡ false
+      → ReportOf input (p .number) (answerLine (p .number))
+  joined : (p : Picked) (result : Joined) (left : List ℕ) → 3 ≤ length input → PickDone mod257 (orderIn input) (trayIn input) p → told (p .number) ≡ true
+      → JoinDone mod257 (orderIn input) (p .stamp) (p .length) (trayIn input) (replicate (p .length) 0) result left
+      → ReportOf input (result .number) (lines (orderIn input) (trayIn input) (p .stamp) (p .length) result)
 
 -- the report stands at the start of the space lent, the count of its bytes and its number are answered, and the rest of the space is as it was
 pub record Reported (input before : List ℕ) (answered : Answered) (after : List ℕ) : Type 0 where

@@ -2,7 +2,6 @@
 -- Assumes nothing.
 use Prim.Native.Nat.{ℕ, zero, suc, _*_, _≤_}
 use mathlib.Core.Path.{_≡_, ap}
-use mathlib.Core.Bool.{cond}
 use mathlib.Core.List.{List, _++_}
 use native.Mathlib.Omega.{arith}
 use lib.Count.{ones}
@@ -15,21 +14,18 @@ use Rattle.lines.specs.LineLaws.{length-keeper-line}
 use Rattle.header.specs.declared.order.Order.{Order}
 use Rattle.tray.specs.Tray.{usable}
 use Rattle.join.specs.declared.Joined.{Joined}
-use Rattle.report_text.specs.Report.{standing, told, lines}
+use Rattle.report_text.specs.Report.{standing, lines}
 
 -- the line of keeper k + 1
 abbrev pub lineOf : ℕ → ℕ → ℕ → ℕ → List ℕ
 lineOf number usables set k = keeperLine (suc k) (wordOf (standing number (member usables (suc k)) (member set (suc k))))
 
-abbrev pub joinedLinesOf : ℕ → ℕ → ℕ → ℕ → Joined → List ℕ
-joinedLinesOf n stamp l usables result =
+unfoldable pub linesOf : ℕ → ℕ → ℕ → ℕ → Joined → List ℕ
+linesOf n stamp l usables result =
     stampLine stamp l
     ++ (pieces (lineOf (result .number) usables (result .set)) n
     ++ (countLine (result .usable) (result .need) (ones (result .set))
     ++ answerLine (result .number)))
-
-unfoldable pub linesOf : ℕ → ℕ → ℕ → ℕ → Joined → List ℕ
-linesOf n stamp l usables result = cond (told (result .number)) (joinedLinesOf n stamp l usables result) (answerLine (result .number))
 
 -- sixteen keepers' lines are short
 pub length-keepers : (number usables set n : ℕ) → n ≤ 16 → length (pieces (lineOf number usables set) n) ≤ 18 * n
@@ -49,5 +45,5 @@ module _ (order : Order) (tray : List ℕ) (stamp l : ℕ) (result : Joined) whe
   pub lines-of-set : linesOf (order .n) stamp l (keeperSet (usable order stamp l tray) (order .n)) result ≡ lines order tray stamp l result
   unfolding linesOf lines
   lines-of-set =
-      ap (λ (ks : List ℕ). cond (told (result .number)) (stampLine stamp l ++ (ks ++ (countLine (result .usable) (result .need) (ones (result .set)) ++ answerLine (result .number)))) (answerLine (result .number)))
+      ap (λ (ks : List ℕ). stampLine stamp l ++ (ks ++ (countLine (result .usable) (result .need) (ones (result .set)) ++ answerLine (result .number))))
       (pieces-same _ _ (order .n) one-line)

@@ -2,7 +2,7 @@
 ghost use mathlib.Core.Path.{_≡_};
 ghost use Prim.Native.Nat.{_≤_};
 ghost use lib.ListN.{length};
-ghost use Rattle.report_text.specs.Report.{orderIn, Reported};
+ghost use Rattle.report_text.specs.Report.{told, orderIn, Reported};
 use crate::answer::Answered;
 use crate::answer::answer_alone;
 use crate::joined::report_joined;
@@ -14,6 +14,13 @@ mod joined;
 mod keeper;
 mod line;
 
+// Whether the lines of the group picked are written with the pick's number.
+fn is_told(number: u32) -> bool
+    ensures { λ r. ⌜ r ≡ told number ⌝ }
+{
+    number == 0 || (number == 7 || number == 8)
+}
+
 // The report of an input that has an order: of what is picked.
 fn report_picked(o: Order, input: &[u8], out: &mut [u8]) -> Answered
     requires { ⌜ 3 ≤ length (now input) ⌝ ∗ ⌜ o ≡ orderIn (now input) ⌝ ∗ ⌜ length (now out) ≡ 512 ⌝ }
@@ -21,10 +28,10 @@ fn report_picked(o: Order, input: &[u8], out: &mut [u8]) -> Answered
 {
     let tray = &input[3..];
     let picked = pick(o, tray);
-    if picked.number != 0 {
-        return answer_alone(out, picked.number);
+    if is_told(picked.number) {
+        return report_joined(o, picked.stamp, picked.length, tray, out);
     }
-    report_joined(o, picked.stamp, picked.length, tray, out)
+    answer_alone(out, picked.number)
 }
 
 // Writes the report, and answers the count of its bytes and its number.

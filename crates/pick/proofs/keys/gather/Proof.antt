@@ -3,6 +3,7 @@
 use Prim.Native.Nat.{_-_}
 use native.Mathlib.Omega.{arith}
 use borrow.Author.Needs.{needs}
+use Rattle.tray.specs.SlotLaws.{length-slot}
 use Rattle.pick.proofs.Gathering.{GatheredTo, gathered-none, gathered-next, gathered-all}
 use Rattle.pick.proofs.keys.gather.Statement.{statement}
 use Rattle.pick.proofs.keys.gather.Tie as tie
@@ -26,7 +27,7 @@ add-key-in : tie.Need-add-key-in Inv-loop μ-loop
 add-key-in c = search needs
 
 key-in-requires : tie.Need-key-in-requires Inv-loop μ-loop
-key-in-requires c κs = search needs
+key-in-requires c κs = rw (c .slot-of .ensures) (length-slot _ _ (omega arith) (omega arith))
 
 mul-keys : tie.Need-mul-keys Inv-loop μ-loop
 mul-keys c = omega arith

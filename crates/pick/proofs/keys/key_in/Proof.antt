@@ -1,58 +1,37 @@
--- `pick::keys::key_in` meets its contract: what the slot reads as decides, and of a good letter its head.
+-- `pick::keys::key_in` meets its contract: whether a letter may have the head decides.
 -- Assumes nothing.
-use mathlib.Core.Path.{sym, _∙_}
+use mathlib.Core.Path.{_≡_, sym, _∙_}
+use native.Mathlib.Omega.{arith}
+use lib.ListN.{length, take}
+use lib.Seq.{length-take-le}
 use borrow.Author.Needs.{needs}
-use Rattle.header.specs.HeadLaws.{lawful-head-facts}
-use Rattle.format.specs.ReadingBounds.{good-lawful}
+use Rattle.pick.proofs.Said.{may-facts}
 use Rattle.pick.proofs.keys.key_in.Statement.{statement}
 use Rattle.pick.proofs.keys.key_in.Tie as tie
 
-read-requires : tie.Need-read-requires
-read-requires c κs = search needs
+-- block 0 is there
+front : (c : tie.Start) → length (take 512 (c .args .slot .now)) ≡ 512
+front c = length-take-le 512 (c .args .slot .now) (omega arith)
 
-enum-known-h : tie.Need-enum-known-h
-enum-known-h c = search needs
+slice-aggregate-head-of : tie.Need-slice-aggregate-head-of
+slice-aggregate-head-of c = sym (front (c .before .before))
 
-enum-told : tie.Need-enum-told
-enum-told c = search needs
+head-of-requires : tie.Need-head-of-requires
+head-of-requires c κs = front (c .before .before)
 
-returns : tie.Need-returns
-returns c = let read = sym (c .before .before .read .ensures) ∙ c .enum-told .given .1 in rw read
-
-head-for-requires : tie.Need-head-for-requires
-head-for-requires c κs = search needs
-
-same-requires : tie.Need-same-requires
-same-requires c κs = search needs
+may-have-requires : tie.Need-may-have-requires
+may-have-requires c κs = search needs
 
 key-of-requires : tie.Need-key-of-requires
-key-of-requires c κs =
-    let given = c .before .before .before .before .h .given in
-    let read = sym (c .before .before .before .before .before .before .read .ensures) ∙ given .1 in
-    lawful-head-facts _ (good-lawful _ (given .0 .0) read) .of-terms .length-most
+key-of-requires c κs = may-facts _ _ _ (sym (c .before .may-have .ensures) ∙ c .if1 .taken) .length-most
+
+returns : tie.Need-returns
+returns c =
+    let may = c .before .before in
+    rw (← may .before .head-of .ensures, ← may .may-have .ensures, c .before .if1 .taken) (c .key-of .ensures)
 
 returns-2 : tie.Need-returns-2
-returns-2 c =
-    let head = c .before .before .before in
-    let read = sym (head .before .before .before .before .read .ensures) ∙ head .before .before .h .given .1 in
-    rw (read, ← head .head-for .ensures, ← c .before .before .same .ensures, c .before .if1 .taken) (c .key-of .ensures)
-
-returns-3 : tie.Need-returns-3
-returns-3 c =
-    let head = c .before .before in
-    let read = sym (head .before .before .before .before .read .ensures) ∙ head .before .before .h .given .1 in
-    rw (read, ← head .head-for .ensures, ← c .before .same .ensures, c .if1 .left)
+returns-2 c = rw (← c .before .before .head-of .ensures, ← c .before .may-have .ensures, c .if1 .left)
 
 pub key-in-spec : {M : Type 1} → statement M
-key-in-spec =
-    tie.close
-    (tie.spec
-    read-requires
-    enum-known-h
-    enum-told
-    returns
-    head-for-requires
-    same-requires
-    key-of-requires
-    returns-2
-    returns-3)
+key-in-spec = tie.close (tie.spec slice-aggregate-head-of head-of-requires may-have-requires key-of-requires returns returns-2)

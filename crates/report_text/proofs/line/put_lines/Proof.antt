@@ -1,18 +1,39 @@
--- `report_text::line::put_lines` meets its contract: by its number a join is told, or its answer alone is.
+-- `report_text::line::put_lines` meets its contract: each line is written right behind the one before, and there is room for it.
 -- Assumes nothing.
+use native.Mathlib.Omega.{arith}
 use borrow.Author.Needs.{needs}
+use Rattle.lines.specs.LineLaws.{length-stamp-line}
+use Rattle.lines.specs.Written.{written-more}
 use Rattle.report_text.specs.Sets.{linesOf}
+use Rattle.report_text.proofs.JoinedLines.{Short, short-lines}
 use Rattle.report_text.proofs.line.put_lines.Statement.{statement}
 use Rattle.report_text.proofs.line.put_lines.Tie as tie
 
-is-told-requires : tie.Need-is-told-requires
-is-told-requires c κs = search needs
+short : (c : tie.After-struct-known)
+    → let a = c .before .before .before .before .before .before .before .before .before .before .args in Short (a .n) (a .stamp) (a .l) (a .usable) (a .joined)
+short c =
+    let start = c .before .before .before .before .before .before .before .before .before .before in
+    let a = start .args in
+    short-lines (a .n) (a .stamp) (a .l) (a .usable) (a .joined) (start .pre .0) (omega arith) (omega arith) (omega arith) (omega arith) (omega arith)
 
-put-joined-lines-requires : tie.Need-put-joined-lines-requires
-put-joined-lines-requires c κs = search needs
+put-stamp-line-requires : tie.Need-put-stamp-line-requires
+put-stamp-line-requires c κs = search needs
+
+put-keepers-requires : tie.Need-put-keepers-requires
+put-keepers-requires c κs =
+    let a = c .before .before .before .before .before .before .args in
+    let stamp = length-stamp-line (a .stamp) (a .l) (omega arith) (omega arith) in
+    (omega arith, omega arith)
+
+put-count-line-requires : tie.Need-put-count-line-requires
+put-count-line-requires c κs =
+    let lines = short (c .before) in
+    omega arith
 
 put-answer-line-requires : tie.Need-put-answer-line-requires
-put-answer-line-requires c κs = search needs
+put-answer-line-requires c κs =
+    let lines = short (c .before .before .before .before .before) in
+    omega arith
 
 same-length : tie.Need-same-length
 same-length c = search needs
@@ -20,28 +41,22 @@ same-length c = search needs
 returns : tie.Need-returns
 unfolding linesOf
 returns c =
-    let lines = c .before .before in
-    let way = lines .before .before in
-    rw (← way .before .is-told .ensures, way .if1 .taken) (lines .put-joined-lines .ensures)
-
-same-length-2 : tie.Need-same-length-2
-same-length-2 c = search needs
-
-returns-2 : tie.Need-returns-2
-unfolding linesOf
-returns-2 c =
-    let line = c .before .before in
-    let way = line .before .before in
-    rw (← way .before .is-told .ensures, way .if1 .left) (line .put-answer-line .ensures)
+    let answer = c .before .before in
+    let count = answer .before .before .before .before in
+    let keepers = count .before .before .before .before .before in
+    let stamp = keepers .before .before .before .before in
+    let lines = short (count .before .before) in
+    written-more (omega arith) (stamp .put-stamp-line .ensures)
+    (written-more (omega arith) (keepers .put-keepers .ensures)
+    (written-more (omega arith) (count .put-count-line .ensures) (answer .put-answer-line .ensures)))
 
 pub put-lines-spec : {M : Type 1} → statement M
 put-lines-spec =
     tie.close
     (tie.spec
-    is-told-requires
-    put-joined-lines-requires
+    put-stamp-line-requires
+    put-keepers-requires
+    put-count-line-requires
     put-answer-line-requires
     same-length
-    returns
-    same-length-2
-    returns-2)
+    returns)

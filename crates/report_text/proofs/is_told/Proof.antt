@@ -1,8 +1,8 @@
--- `report_text::line::is_told` meets its contract: its tests are the definition's, in their order.
+-- `report_text::is_told` meets its contract: its tests are the definition's, in their order.
 -- Assumes nothing.
 use borrow.Author.Tests.{eq-eqb, ne-eqb}
-use Rattle.report_text.proofs.line.is_told.Statement.{statement}
-use Rattle.report_text.proofs.line.is_told.Tie as tie
+use Rattle.report_text.proofs.is_told.Statement.{statement}
+use Rattle.report_text.proofs.is_told.Tie as tie
 
 returns : tie.Need-returns
 returns c = rw (eq-eqb _ 0 (c .if1 .taken))

@@ -1,4 +1,4 @@
--- `pick::group_size` meets its contract, place by place.
+-- `pick::groups::group_size` meets its contract, place by place.
 -- Assumes nothing.
 use Prim.Native.Nat.{_-_, _≤_}
 use mathlib.Core.Path.{_≡_, sym, ap, _∙_}
@@ -7,8 +7,8 @@ use native.Mathlib.Omega.{arith}
 use borrow.Author.Needs.{needs}
 use Rattle.pick.specs.Keys.{sizeOf}
 use Rattle.pick.proofs.Counting.{size-none, size-most, size-one-more, size-same}
-use Rattle.pick.proofs.group_size.Statement.{statement}
-use Rattle.pick.proofs.group_size.Tie as tie
+use Rattle.pick.proofs.groups.group_size.Statement.{statement}
+use Rattle.pick.proofs.groups.group_size.Tie as tie
 
 abbrev Inv-loop : tie.InvT-loop
 Inv-loop keys n key size₀ k₀ size k = (k ≤ n) × (size ≡ sizeOf keys k key)

@@ -1,20 +1,20 @@
--- `pick::best_of` meets its contract, place by place. The measure is the places left.
+-- `pick::groups::next_of` meets its contract, place by place. The measure is the places left.
 -- Assumes nothing.
 use Prim.Native.Nat.{_-_}
 use mathlib.Core.Logic.{⊎-elim}
 use borrow.Author.Needs.{needs}
-use Rattle.pick.proofs.Greatest.{BestTo, best-none, best-kept, best-next, best-all}
-use Rattle.pick.proofs.best_of.Statement.{statement}
-use Rattle.pick.proofs.best_of.Tie as tie
+use Rattle.pick.proofs.Next.{NextTo, next-none, next-kept, next-more, next-all}
+use Rattle.pick.proofs.groups.next_of.Statement.{statement}
+use Rattle.pick.proofs.groups.next_of.Tie as tie
 
 abbrev Inv-loop : tie.InvT-loop
-Inv-loop keys n least best₀ k₀ best k = BestTo keys n least best k
+Inv-loop keys n least bound best₀ k₀ best k = NextTo keys n least bound best k
 
 abbrev μ-loop : tie.MeasureT-loop
-μ-loop keys n least best₀ k₀ best k = n - k
+μ-loop keys n least bound best₀ k₀ best k = n - k
 
 loop-holds : tie.Need-loop-holds Inv-loop μ-loop
-loop-holds c = best-none
+loop-holds c = next-none
 
 mul-key : tie.Need-mul-key Inv-loop μ-loop
 mul-key c = search needs
@@ -35,15 +35,15 @@ loop-again : tie.Need-loop-again Inv-loop μ-loop
 loop-again c =
     let turn = c .before .before .before in
     ⊎-elim
-    (λ w. rw (w .1) (best-next (turn .before .loop .inv) (turn .loop-test .taken) (rw (← c .before .comes-next .ensures) (w .0 .taken))))
-    (λ w. rw (w .1) (best-kept (turn .before .loop .inv) (turn .loop-test .taken) (rw (← c .before .comes-next .ensures) (w .0 .left))))
+    (λ w. rw (w .1) (next-more (turn .before .loop .inv) (turn .loop-test .taken) (rw (← c .before .comes-next .ensures) (w .0 .taken))))
+    (λ w. rw (w .1) (next-kept (turn .before .loop .inv) (turn .loop-test .taken) (rw (← c .before .comes-next .ensures) (w .0 .left))))
     (c .if1 .came)
 
 returns : tie.Need-returns Inv-loop μ-loop
-returns c = best-all (c .before .loop .inv) (c .loop-test .left)
+returns c = next-all (c .before .loop .inv) (c .loop-test .left)
 
-pub best-of-spec : {M : Type 1} → statement M
-best-of-spec =
+pub next-of-spec : {M : Type 1} → statement M
+next-of-spec =
     tie.close
     (tie.spec
     Inv-loop
