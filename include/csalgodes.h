@@ -38,7 +38,7 @@
  *
  * No call allocates memory, or remembers anything for the next one. Threads may call at once, if none
  * writes what another is lent. A call takes less than 64 KB of stack, and does not wipe it: after a
- * cut or a join, words of the secret stay there until something overwrites them.
+ * cut, a pick or a join, words of the secret stay there until something overwrites them.
  */
 #ifndef CSALGODES_H
 #define CSALGODES_H
@@ -55,10 +55,10 @@ extern "C" {
  * name has both, so that a program runs with the calls that it was built for or does not start.
  */
 #define CSALGODES_VERSION_MAJOR 0
-#define CSALGODES_VERSION_MINOR 2
+#define CSALGODES_VERSION_MINOR 3
 #define CSALGODES_VERSION_PATCH 0
 
-/* As one number, to be compared: 0.2.0 is 200, and 1.2.3 would be 10203. */
+/* As one number, to be compared: 0.3.0 is 300, and 1.2.3 would be 10203. */
 #define CSALGODES_VERSION \
     (CSALGODES_VERSION_MAJOR * 10000 + CSALGODES_VERSION_MINOR * 100 + CSALGODES_VERSION_PATCH)
 
@@ -86,8 +86,10 @@ enum {
     CS_WRONG_SIZE = 4,          /* a lent part has the wrong length */
     CS_RANDOM_TOO_GREAT = 5,    /* a random word is above 256 */
     CS_TOO_FEW = 6,             /* fewer than t+f+1 usable letters; for the pick, no group that large */
-    CS_NO_AGREEMENT = 7,        /* the letters differ: no polynomials match enough of them */
-    CS_NOT_BYTES = 8,           /* they match, but some constant is 256, which is no byte */
+    CS_NO_AGREEMENT = 7,        /* the letters differ: no polynomials match enough of them; for the pick,
+                                   those of the greatest group, and no other group joins */
+    CS_NOT_BYTES = 8,           /* they match, but some constant is 256, which is no byte; for the pick,
+                                   in the greatest group, and no other group joins */
     CS_WORD_TOO_GREAT = 9,      /* a word in a block is above 256 */
     CS_CHECK_WRONG = 10,        /* a check word is wrong: the block is damaged */
     CS_MARK_WRONG = 11,         /* word 0 or 1 of a block is wrong: no letter, or none of this format */
@@ -185,15 +187,27 @@ uint32_t cs_fetch(uint32_t t, uint32_t f, uint32_t n, uint32_t keeper,
 
 /* What to join of a tray. */
 typedef struct {
-    uint32_t number; /* 0, 1, 4 or 6 */
-    uint32_t stamp;
-    uint32_t length; /* of the secret, in bytes */
+    uint32_t number; /* 0, 1, 4, 6, 7 or 8 */
+    uint32_t stamp;  /* of 0, 7 and 8: the stamp of the group answered; else 0 */
+    uint32_t length; /* of 0, 7 and 8: the length of its secret, in bytes; else 0 */
 } cs_pick_result;
 
 /*
  * Picks what to join. The tray's good letters of this order, each in its own keeper's slot, are grouped
- * by stamp and length. Of the groups of at least t+f+1 letters the pick answers the one with the greatest
- * stamp, and of those the greatest length.
+ * by stamp and length. The groups of at least t+f+1 letters are gone through, the greatest stamp first, and
+ * of one stamp the greatest length first. The pick answers 0 with the stamp and length of the first group
+ * whose join gives 0: told these, cs_join gives the secret. If there are such groups and none joins, it
+ * answers for the first of them, the greatest group: the number of its join, 7 or 8, its stamp and length.
+ *
+ * A clerk's machine may break down when only a few letters of a new cut are sent. If they are just enough for
+ * a group and one of them is a lie, they do not join, and the pick goes on to the older letters: it answers
+ * the older stamp, and whoever joins that gets the older secret. That takes t+f+1 keepers who still have the
+ * older letter; a desk that took the newer one has it no more. No answer says that nothing newer was cut, and
+ * none can: all newer letters may be missing from the tray. A caller who knows the stamp of the newest cut
+ * compares it with the one answered. One who does not must reckon with an older secret.
+ *
+ * It makes a join for each stamp and length that at least t+f+1 slots say, until one gives 0: mostly that is
+ * one, and it is never more than eight. It takes about their time.
  *
  * Lent: the tray, n*2048 bytes.
  * Writes: nothing.
