@@ -122,7 +122,8 @@ static answer pick(char **word) {
     order o = order_in(word);
     size_t tray_length = load_tray(o, word[3], tray);
     cs_pick_result r = cs_pick(o.t, o.f, o.n, tray, tray_length);
-    if (r.number == 0) say("stamp %u length %u\n", r.stamp, r.length);
+    /* a group is named where one is to be joined, and where there are groups and none joins */
+    if (r.stamp > 0) say("stamp %u length %u\n", r.stamp, r.length);
     return (answer){.number = r.number};
 }
 
@@ -211,7 +212,9 @@ static void help(void) {
     usage(1);
     say("T F N is the order, SLOT, HELD and LETTER are files of 2048 bytes, TRAY, BEFORE and AFTER are\n"
         "folders of them, named 1 .. N. The status is the answer's number; %d is trouble with a file or\n"
-        "a word. compare ends with 0 only where no word differs, and with %d where one does. The words that\n"
+        "a word. pick names the newest stamp and length that join, and with 7 or 8 the newest that enough\n"
+        "letters have, if none joins. Something newer may have been cut whose letters are missing or do not\n"
+        "match. compare ends with 0 only where no word differs, and with %d where one does. The words that\n"
         "it prints are of letters: keep what it says as you keep the letters.\n",
         TROUBLE, DIFFERENT);
 }
