@@ -1,6 +1,7 @@
 /*
  * Csalgodes from C: cuts a secret for seven keepers, loses one letter, takes another from a liar, sees by
- * comparing which slots changed, and joins. Then too many letters are lost, and the join refuses.
+ * comparing which slots changed, picks what to join, and joins it. Then there is one liar too many, then too
+ * many letters are lost, and the pick refuses.
  *
  *     gcc -I target/library examples/c/example.c target/library/libcsalgodes.a -o example
  */
@@ -57,26 +58,42 @@ static int compare_and_say(const uint8_t *before, const uint8_t *after) {
     return 1;
 }
 
-/* Joins, and says what was found. Whether the secret was written: a refusal leaves the room alone. */
-static int join_and_say(const uint8_t *tray, uint8_t *room) {
-    cs_join_result found = cs_join(T, F, N, STAMP, LENGTH, tray, TRAY, room, LENGTH);
-    printf("join: number %u, usable %u, need %u\n", found.number, found.usable, found.need);
-    switch (found.number) {
-    case 0: break;
+/* Picks what to join, and says what that is. Whether there is something. */
+static int pick_and_say(const uint8_t *tray, cs_pick_result *picked) {
+    *picked = cs_pick(T, F, N, tray, TRAY);
+    printf("pick: number %u, stamp %u, length %u\n", picked->number, picked->stamp, picked->length);
+    switch (picked->number) {
+    case 0: return 1;
     case 6: printf("refused: too few letters, more keepers must answer\n"); return 0;
+    case 7:
+    case 8:
+        printf("refused: there are enough letters of stamp %u, but they do not join\n", picked->stamp);
+        return 0;
     default: printf("refused: csalgodes.h says why\n"); return 0;
     }
+}
+
+/*
+ * Joins what the pick names, and says what was found. The length of the secret written, 0 for none. Where
+ * newer letters are lost, it is an older secret: whoever knows the newest stamp compares it with the one picked.
+ */
+static uint32_t join_and_say(const uint8_t *tray, uint8_t *room) {
+    cs_pick_result picked;
+    if (!pick_and_say(tray, &picked)) return 0;
+    cs_join_result found = cs_join(T, F, N, picked.stamp, picked.length, tray, TRAY, room, picked.length);
+    printf("join: number %u, usable %u, need %u\n", found.number, found.usable, found.need);
+    if (found.number != 0) return 0;
     printf("agree:");
     for (int keeper = 1; keeper <= N; keeper++) {
         if (found.set >> (keeper - 1) & 1) printf(" %d", keeper);
     }
     printf("\n");
-    return 1;
+    return picked.length;
 }
 
 int main(void) {
     static uint8_t tray[TRAY], other_tray[TRAY], as_cut[TRAY];
-    uint8_t secret[LENGTH], other_secret[LENGTH], room[LENGTH];
+    uint8_t secret[LENGTH], other_secret[LENGTH], room[CS_LONGEST_SECRET];
     if (!cut_new(secret, tray) || !cut_new(other_secret, other_tray)) return 1;
     printf("cut: %d bytes into %d letters\n", LENGTH, N);
     memcpy(as_cut, tray, TRAY);
@@ -85,15 +102,22 @@ int main(void) {
     memcpy(slot(tray, 3), slot(other_tray, 3), SLOT);
     memset(slot(tray, 5), 0, SLOT);
     if (!compare_and_say(as_cut, tray)) return 1;
-    if (!join_and_say(tray, room) || memcmp(room, secret, LENGTH) != 0) {
+    if (join_and_say(tray, room) != LENGTH || memcmp(room, secret, LENGTH) != 0) {
         fprintf(stderr, "the secret did not come back\n");
         return 1;
     }
     printf("the secret came back\n");
 
+    /* Keeper 4 lies too, one more than the order allows for. */
+    memcpy(slot(tray, 4), slot(other_tray, 4), SLOT);
+    if (join_and_say(tray, room) != 0) {
+        fprintf(stderr, "letters of two secrets were joined\n");
+        return 1;
+    }
+
     static const int silent[] = {1, 2, 4};
     for (int i = 0; i < 3; i++) memset(slot(tray, silent[i]), 0, SLOT);
-    if (join_and_say(tray, room)) {
+    if (join_and_say(tray, room) != 0) {
         fprintf(stderr, "three letters were joined\n");
         return 1;
     }

@@ -1,4 +1,4 @@
-"""Csalgodes for Python: the calls that cut, join and compare, with bytes in and out."""
+"""Csalgodes for Python: the calls that cut, pick, join and compare, with bytes in and out."""
 
 from array import array
 from collections import namedtuple
@@ -10,8 +10,17 @@ Order = namedtuple("Order", "t f n")
 Difference = namedtuple("Difference", "slot block word first second")
 
 
+class Picked(Structure):
+    """What to join. csalgodes.h has the meaning of each number."""
+
+    _fields_ = [(name, c_uint32) for name in ("number", "stamp", "length")]
+
+    def __str__(self):
+        return f"number {self.number}, stamp {self.stamp}, length {self.length}"
+
+
 class Found(Structure):
-    """What a join found. csalgodes.h has the meaning of each number."""
+    """What a join found."""
 
     _fields_ = [(name, c_uint32) for name in ("number", "usable", "need", "set")]
 
@@ -32,11 +41,13 @@ class _Place(Structure):
 
 
 class Refused(Exception):
-    """Has the number of the refusal; its text also says what a join found."""
+    """Has the number of the refusal; its text also says what a pick or a join found. The stamp is 0, save
+    where a pick found enough letters of that stamp and they do not join."""
 
-    def __init__(self, number, text):
+    def __init__(self, number, text, stamp=0):
         super().__init__(text)
         self.number = number
+        self.stamp = stamp
 
 
 _read = [c_char_p, c_size_t]
@@ -48,6 +59,8 @@ _places = [POINTER(_Place), c_size_t]
 _library = CDLL("libcsalgodes.so.0.3")
 _library.cs_cut.argtypes = [c_uint32] * 4 + _read + _words + _written
 _library.cs_cut.restype = c_uint32
+_library.cs_pick.argtypes = [c_uint32] * 3 + _read
+_library.cs_pick.restype = Picked
 _library.cs_join.argtypes = [c_uint32] * 5 + _read + _written
 _library.cs_join.restype = Found
 _library.cs_compare.argtypes = [c_uint32] * 3 + _read + _read + _places
@@ -74,6 +87,14 @@ def cut(order, stamp, secret, random):
     if number != 0:
         raise Refused(number, f"number {number}")
     return tray
+
+
+def pick(order, tray):
+    """Which stamp and length to join."""
+    picked = _library.cs_pick(*_numbers(*order), bytes(tray), len(tray))
+    if picked.number != 0:
+        raise Refused(picked.number, str(picked), picked.stamp)
+    return picked
 
 
 def join(order, stamp, length, tray):

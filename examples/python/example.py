@@ -1,5 +1,6 @@
 """Csalgodes from Python: cuts a secret for seven keepers, loses one letter, takes another from a liar,
-sees by comparing which slots changed, and joins. Then too many letters are lost, and the join refuses.
+sees by comparing which slots changed, picks what to join, and joins it. Then there is one liar too many,
+then too many letters are lost, and the pick refuses.
 
     LD_LIBRARY_PATH=target/library python3 examples/python/example.py
 """
@@ -7,7 +8,7 @@ sees by comparing which slots changed, and joins. Then too many letters are lost
 import secrets
 import sys
 
-from csalgodes import SLOT, Order, Refused, compare, cut, join
+from csalgodes import SLOT, Order, Refused, compare, cut, join, pick
 
 ORDER = Order(t=2, f=1, n=7)
 STAMP = 1
@@ -31,17 +32,30 @@ def compare_and_say(before, after):
     print("compare: slots that changed:", *slots)
 
 
-def join_and_say(tray):
-    """The secret, or None if the join was refused."""
+def pick_and_say(tray):
+    """What to join, or None if there is nothing."""
     try:
-        secret, found = join(ORDER, STAMP, LENGTH, tray)
+        picked = pick(ORDER, tray)
     except Refused as refused:
-        print("join:", refused)
+        print("pick:", refused)
         if refused.number == 6:
             print("refused: too few letters, more keepers must answer")
+        elif refused.number in (7, 8):
+            print(f"refused: there are enough letters of stamp {refused.stamp}, but they do not join")
         else:
             print("refused: csalgodes.h says why")
         return None
+    print("pick:", picked)
+    return picked
+
+
+def join_and_say(tray):
+    """The secret that the pick names, or None if there is none. Where newer letters are lost, it is an older
+    secret: whoever knows the newest stamp compares it with the one picked."""
+    picked = pick_and_say(tray)
+    if picked is None:
+        return None
+    secret, found = join(ORDER, picked.stamp, picked.length, tray)
     print("join:", found)
     print("agree:", *found.keepers())
     return secret
@@ -60,6 +74,11 @@ def main():
     if join_and_say(tray) != secret:
         sys.exit("the secret did not come back")
     print("the secret came back")
+
+    # Keeper 4 lies too, one more than the order allows for.
+    tray[slot(4)] = other_tray[slot(4)]
+    if join_and_say(tray) is not None:
+        sys.exit("letters of two secrets were joined")
 
     for silent in (1, 2, 4):
         tray[slot(silent)] = bytes(SLOT)

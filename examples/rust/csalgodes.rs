@@ -1,4 +1,4 @@
-//! Csalgodes for Rust: the calls that cut, join and compare, with slices in and out.
+//! Csalgodes for Rust: the calls that cut, pick, join and compare, with slices in and out.
 //!
 //! A slice is there and is never NULL, and one that may be written overlaps no other. That is all
 //! the C header asks of a caller, so these calls are safe whatever they are given.
@@ -14,7 +14,21 @@ pub struct Order {
     pub n: u32,
 }
 
-/// What a join found. `csalgodes.h` has the meaning of each number.
+/// What to join. `csalgodes.h` has the meaning of each number.
+#[repr(C)]
+pub struct Picked {
+    pub number: u32,
+    pub stamp: u32,
+    pub length: u32,
+}
+
+impl fmt::Display for Picked {
+    fn fmt(&self, to: &mut fmt::Formatter) -> fmt::Result {
+        write!(to, "number {}, stamp {}, length {}", self.number, self.stamp, self.length)
+    }
+}
+
+/// What a join found.
 #[repr(C)]
 pub struct Found {
     pub number: u32,
@@ -63,6 +77,8 @@ extern "C" {
         tray: *mut u8, tray_length: usize,
     ) -> u32;
 
+    fn cs_pick(t: u32, f: u32, n: u32, tray: *const u8, tray_length: usize) -> Picked;
+
     fn cs_join(
         t: u32, f: u32, n: u32, stamp: u32, length: u32,
         tray: *const u8, tray_length: usize,
@@ -91,6 +107,15 @@ pub fn cut(
     match unsafe { cs_cut(t, f, n, stamp, bytes, length, words, count, slots, size) } {
         0 => Ok(()),
         number => Err(number),
+    }
+}
+
+/// Which stamp and length to join. A refusal has them too where there are enough such letters and they
+/// do not join.
+pub fn pick(Order { t, f, n }: Order, tray: &[u8]) -> Result<Picked, Picked> {
+    match unsafe { cs_pick(t, f, n, tray.as_ptr(), tray.len()) } {
+        picked if picked.number == 0 => Ok(picked),
+        refusal => Err(refusal),
     }
 }
 

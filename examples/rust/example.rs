@@ -1,12 +1,12 @@
 //! Csalgodes from Rust: cuts a secret for seven keepers, loses one letter, takes another from a
-//! liar, sees by comparing which slots changed, and joins. Then too many letters are lost, and the
-//! join refuses.
+//! liar, sees by comparing which slots changed, picks what to join, and joins it. Then there is one
+//! liar too many, then too many letters are lost, and the pick refuses.
 //!
 //!     rustc --edition 2021 -L target/library examples/rust/example.rs
 
 mod csalgodes;
 
-use csalgodes::{compare, cut, join, Order, SLOT};
+use csalgodes::{compare, cut, join, pick, Order, Picked, SLOT};
 use std::{error::Error, fs::File, io, io::Read, ops::Range};
 
 const ORDER: Order = Order { t: 2, f: 1, n: 7 };
@@ -54,21 +54,39 @@ fn compare_and_say(before: &[u8], after: &[u8]) -> Result<(), Box<dyn Error>> {
     Ok(())
 }
 
-/// Joins, and says what was found. None if the join was refused.
-fn join_and_say(tray: &[u8]) -> Option<[u8; LENGTH]> {
-    let mut room = [0; LENGTH];
-    match join(ORDER, STAMP, tray, &mut room) {
+/// Picks what to join, and says what that is. None if there is nothing.
+fn pick_and_say(tray: &[u8]) -> Option<Picked> {
+    match pick(ORDER, tray) {
+        Ok(picked) => {
+            println!("pick: {picked}");
+            Some(picked)
+        }
+        Err(refusal) => {
+            let stamp = refusal.stamp;
+            let why = match refusal.number {
+                6 => "too few letters, more keepers must answer".to_string(),
+                7 | 8 => format!("there are enough letters of stamp {stamp}, but they do not join"),
+                _ => "csalgodes.h says why".to_string(),
+            };
+            println!("pick: {refusal}\nrefused: {why}");
+            None
+        }
+    }
+}
+
+/// Joins what the pick names, and says what was found. None if there is nothing. Where newer letters
+/// are lost, it is an older secret: whoever knows the newest stamp compares it with the one picked.
+fn join_and_say(tray: &[u8]) -> Option<Vec<u8>> {
+    let Picked { stamp, length, .. } = pick_and_say(tray)?;
+    let mut room = vec![0; length as usize];
+    match join(ORDER, stamp, tray, &mut room) {
         Ok(found) => {
             let keepers: Vec<_> = found.keepers().iter().map(u32::to_string).collect();
             println!("join: {found}\nagree: {}", keepers.join(" "));
             Some(room)
         }
         Err(found) => {
-            let why = match found.number {
-                6 => "too few letters, more keepers must answer",
-                _ => "csalgodes.h says why",
-            };
-            println!("join: {found}\nrefused: {why}");
+            println!("join: {found}");
             None
         }
     }
@@ -85,10 +103,16 @@ fn main() -> Result<(), Box<dyn Error>> {
     tray[slot(3)].copy_from_slice(&other_tray[slot(3)]);
     tray[slot(5)].fill(0);
     compare_and_say(&as_cut, &tray)?;
-    if join_and_say(&tray) != Some(secret) {
+    if join_and_say(&tray).as_deref() != Some(&secret) {
         return Err("the secret did not come back".into());
     }
     println!("the secret came back");
+
+    // Keeper 4 lies too, one more than the order allows for.
+    tray[slot(4)].copy_from_slice(&other_tray[slot(4)]);
+    if join_and_say(&tray).is_some() {
+        return Err("letters of two secrets were joined".into());
+    }
 
     for silent in [1, 2, 4] {
         tray[slot(silent)].fill(0);
