@@ -22,7 +22,7 @@ impl Case {
     pub fn good(order: Order, random: &Random) -> Case {
         let secret = random.bytes(LONGEST);
         let random = random.words(LONGEST * order.t as usize);
-        let tray = cut(order, &secret, &random);
+        let tray = cut(order, STAMP, &secret, &random);
         Case::with_tray(order, secret, random, tray)
     }
 
@@ -32,7 +32,7 @@ impl Case {
         let Case { mut tray, secret, random, .. } = Case::good(order, random);
         let mut other = secret.clone();
         other[LONGEST - 1] ^= 1;
-        let lies = cut(order, &other, &random);
+        let lies = cut(order, STAMP, &other, &random);
         (1..=3).for_each(|keeper| exchange_slot(&mut tray, &lies, keeper));
         Case::with_tray(order, secret, random, tray)
     }
@@ -44,8 +44,8 @@ impl Case {
     }
 }
 
-fn cut(order: Order, secret: &[u8], random: &[u16]) -> Vec<u8> {
+pub fn cut(order: Order, stamp: u32, secret: &[u8], random: &[u16]) -> Vec<u8> {
     let mut tray = vec![0; order.tray()];
-    assert_eq!(second::cut::cut(order, STAMP, secret, random, &mut tray), 0);
+    assert_eq!(second::cut::cut(order, stamp, secret, random, &mut tray), 0);
     tray
 }

@@ -4,6 +4,7 @@
 use second::join::Joined;
 use second::letter::{Fault, Head};
 use second::order::Order;
+use second::pick::Picked;
 
 #[repr(C)]
 struct JoinResult {
@@ -11,6 +12,13 @@ struct JoinResult {
     usable: u32,
     need: u32,
     set: u32,
+}
+
+#[repr(C)]
+struct PickResult {
+    number: u32,
+    stamp: u32,
+    length: u32,
 }
 
 #[repr(C)]
@@ -51,6 +59,13 @@ impl From<JoinResult> for Joined {
     }
 }
 
+impl From<PickResult> for Picked {
+    fn from(result: PickResult) -> Picked {
+        let PickResult { number, stamp, length } = result;
+        Picked { number, stamp, length }
+    }
+}
+
 impl From<ReadResult> for Result<Head, Fault> {
     fn from(result: ReadResult) -> Result<Head, Fault> {
         let ReadResult { number, place, t, f, n, keeper, stamp, length } = result;
@@ -62,7 +77,7 @@ impl From<ReadResult> for Result<Head, Fault> {
 }
 
 macro_rules! calls {
-    ($library:ident, $cut:literal, $join:literal, $read:literal, $compare:literal) => {
+    ($library:ident, $cut:literal, $pick:literal, $join:literal, $read:literal, $compare:literal) => {
         pub mod $library {
             use super::*;
 
@@ -80,6 +95,15 @@ macro_rules! calls {
                     tray: *mut u8,
                     tray_length: usize,
                 ) -> u32;
+
+                #[link_name = $pick]
+                fn cs_pick(
+                    t: u32,
+                    f: u32,
+                    n: u32,
+                    tray: *const u8,
+                    tray_length: usize,
+                ) -> PickResult;
 
                 #[link_name = $join]
                 fn cs_join(
@@ -138,6 +162,11 @@ macro_rules! calls {
                 }
             }
 
+            pub fn pick(Order { t, f, n }: Order, tray: &[u8]) -> Picked {
+                // SAFETY: as in the cut.
+                unsafe { cs_pick(t, f, n, tray.as_ptr(), tray.len()) }.into()
+            }
+
             pub fn join(
                 Order { t, f, n }: Order,
                 stamp: u32,
@@ -185,6 +214,6 @@ macro_rules! calls {
     };
 }
 
-calls!(plain, "cs_cut", "cs_join", "cs_read", "cs_compare");
+calls!(plain, "cs_cut", "cs_pick", "cs_join", "cs_read", "cs_compare");
 #[cfg(target_arch = "x86_64")]
-calls!(v3, "v3_cs_cut", "v3_cs_join", "v3_cs_read", "v3_cs_compare");
+calls!(v3, "v3_cs_cut", "v3_cs_pick", "v3_cs_join", "v3_cs_read", "v3_cs_compare");

@@ -4,6 +4,7 @@
 use crate::comparing::MEMCMP;
 use crate::gfshare::LENT;
 use crate::numbers::{ratio, time};
+use crate::picking::{EIGHT_JOINS, JOIN};
 use crate::programs::SECOND;
 use crate::race::{Best, Race};
 use crate::races::Races;
@@ -16,12 +17,15 @@ pub struct Limit {
 
 pub fn limits(races: &Races) -> Vec<Limit> {
     let equal = races.equal.library();
+    let (one, eight) = (&races.one_group, &races.eight_groups);
     vec![
         beside_second(1.5, "cut", &races.cut),
         less_than_gfshare(&races.cut),
         beside_second(2.0, "join, all letters good", &races.good),
         under(5, "join, three liars in the last word", &races.liars),
         under(20, "join, t=7, three liars, answer 7", &races.too_many),
+        at_most(1.3, "pick, one sound group", one.library(), JOIN, one.of(JOIN)),
+        no_more_than("pick, eight groups", eight.library(), EIGHT_JOINS, eight.of(EIGHT_JOINS)),
         at_most(3.0, "compare, equal trays", equal, MEMCMP, races.equal.of(MEMCMP)),
         beside_equal("compare, 100 words differ, over the whole tray", &races.spread, equal),
         beside_equal("compare, 100 words differ, in one slot", &races.one_slot, equal),
@@ -32,6 +36,10 @@ fn at_most(times: f64, work: &str, own: &Best, whom: &str, other: &Best) -> Limi
     let found = own.times(other);
     let says = format!("{work}: at most {times} times {whom}");
     Limit { says, measured: format!("{} times", ratio(found)), met: found <= times }
+}
+
+fn no_more_than(work: &str, own: &Best, whom: &str, other: &Best) -> Limit {
+    Limit { says: format!("{work}: no more than {whom}"), ..at_most(1.0, work, own, whom, other) }
 }
 
 fn beside_second(times: f64, work: &str, race: &Race) -> Limit {

@@ -5,6 +5,7 @@ use second::fast;
 use second::join::Joined;
 use second::letter::{Fault, Head};
 use second::order::Order;
+use second::pick::Picked;
 
 use crate::library::{plain, Compared, Difference};
 #[cfg(target_arch = "x86_64")]
@@ -15,6 +16,7 @@ pub const LIBRARY_V3: &str = "Csalgodes for v3";
 pub const SECOND: &str = "second program";
 
 pub type CutCall = fn(Order, u32, &[u8], &[u16], &mut [u8]) -> u32;
+pub type PickCall = fn(Order, &[u8]) -> Picked;
 pub type JoinCall = fn(Order, u32, u32, &[u8], &mut [u8]) -> Joined;
 pub type ReadCall = fn(&[u8]) -> Result<Head, Fault>;
 pub type CompareCall = fn(Order, &[u8], &[u8], &mut [Difference]) -> Compared;
@@ -25,6 +27,8 @@ pub struct Program {
     pub join: JoinCall,
     /// The second program's best loops read no letter by itself.
     pub read: Option<ReadCall>,
+    /// The library's pick is raced beside its own joins.
+    pub pick: Option<PickCall>,
     /// The library alone is raced beside memcmp.
     pub compare: Option<CompareCall>,
 }
@@ -38,9 +42,17 @@ pub fn programs() -> Vec<Program> {
             cut: plain::cut,
             join: plain::join,
             read,
+            pick: Some(plain::pick),
             compare: Some(plain::compare),
         },
-        Program { name: SECOND, cut: fast::cut, join: fast::join, read: None, compare: None },
+        Program {
+            name: SECOND,
+            cut: fast::cut,
+            join: fast::join,
+            read: None,
+            pick: None,
+            compare: None,
+        },
     ];
     #[cfg(target_arch = "x86_64")]
     programs.extend(v3::programs());

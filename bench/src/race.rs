@@ -13,7 +13,7 @@ const SLICE: f64 = 0.004;
 pub trait Side {
     fn name(&self) -> &'static str;
 
-    /// The bytes worked on: of the secret, of the letters where these are read, of one tray where two are
+    /// The bytes worked on: of a secret, of the letters where these are read, of one tray where two are
     /// compared.
     fn bytes(&self) -> usize;
 

@@ -1,10 +1,12 @@
 //! The races.
 
-use second::order::Order;
+use second::order::{Order, LONGEST};
+use second::pick::Picked;
 use second::random::Random;
 
-use crate::case::Case;
+use crate::case::{Case, STAMP};
 use crate::comparing::{by_memcmp, compares, Trays};
+use crate::picking::{picks, Groups};
 use crate::programs::LIBRARY_V3;
 use crate::race::Race;
 use crate::sides::{cuts, joins, reads};
@@ -15,6 +17,8 @@ pub struct Races {
     pub good: Race,
     pub liars: Race,
     pub too_many: Race,
+    pub one_group: Race,
+    pub eight_groups: Race,
     /// Where a program can be called to read.
     pub reading: Option<Race>,
     pub equal: Race,
@@ -36,12 +40,20 @@ impl Races {
         let mut good_joins = joins(&good);
         good_joins.extend([gfshare::combine(&good), ssss::combine(&good)]);
         let reads = reads(&good);
+        let (one_group, eight_groups) = (Groups::one(&good), Groups::eight(random));
+        assert_eq!(one_group.answers(), (vec![0], picked(STAMP)));
+        assert_eq!(eight_groups.answers(), (vec![8, 8, 8, 8, 8, 8, 8, 0], picked(1)));
         let [equal, spread, one_slot] = comparisons(&good);
         Races {
             cut: Race::run("cut, t=3, f=3, n=16", cuts),
             good: Race::run("join, t=3, f=3, n=16, all letters good", good_joins),
             liars: Race::run("join, t=3, f=3, n=16, three liars", joins(&liars)),
             too_many: Race::run("join, t=7, f=2, n=16, three liars, answer 7", joins(&too_many)),
+            one_group: Race::run("pick, t=3, f=3, n=16, one sound group", picks(&one_group)),
+            eight_groups: Race::run(
+                "pick, t=1, f=0, n=16, eight groups, the last joins",
+                picks(&eight_groups),
+            ),
             reading: (!reads.is_empty())
                 .then(|| Race::run("reading 16 letters, t=3, f=3, n=16", reads)),
             equal,
@@ -56,12 +68,15 @@ impl Races {
     }
 
     pub fn all(&self) -> impl Iterator<Item = &Race> {
+        let joined = [&self.good, &self.liars, &self.too_many];
+        let picked = [&self.one_group, &self.eight_groups];
         let compared = [&self.equal, &self.spread, &self.one_slot];
-        [&self.cut, &self.good, &self.liars, &self.too_many]
-            .into_iter()
-            .chain(&self.reading)
-            .chain(compared)
+        [&self.cut].into_iter().chain(joined).chain(picked).chain(&self.reading).chain(compared)
     }
+}
+
+fn picked(stamp: u32) -> Picked {
+    Picked { number: 0, stamp, length: LONGEST as u32 }
 }
 
 fn comparisons(good: &Case) -> [Race; 3] {

@@ -22,9 +22,10 @@ pub fn programs() -> Vec<Program> {
             cut: v3::cut,
             join: v3::join,
             read: Some(v3::read),
+            pick: Some(v3::pick),
             compare: Some(v3::compare),
         },
-        Program { name: SECOND_V3, cut, join, read: None, compare: None },
+        Program { name: SECOND_V3, cut, join, read: None, pick: None, compare: None },
     ]
 }
 
