@@ -1,8 +1,7 @@
 //! `cs_join` beside the second program's join, which tries every set of t+1 letters.
 
 use second::cases::{self, Tray, FAR};
-use second::damage::{exchange_slot, forge_word, lie, set_word, share, slot};
-use second::field::add;
+use second::damage::{exchange_slot, forge_word, lie, set_word, slot};
 use second::join::join;
 use second::order::{Order, SLOT};
 use second::peer::Peer;
@@ -56,9 +55,7 @@ fn keepers(order: Order, count: u32, random: &Random) -> Vec<u32> {
 
 /// Another word than the one held.
 fn lie_at(tray: &mut Tray, keeper: u32, place: usize, random: &Random) {
-    let slot = slot(&mut tray.bytes, keeper);
-    let other = add(share(slot, place), random.between(1, 256));
-    lie(slot, place, other);
+    tray.add_to(keeper, place, random.between(1, 256));
 }
 
 fn lie_somewhere(tray: &mut Tray, keeper: u32, random: &Random) {
@@ -244,20 +241,13 @@ fn two_cuts_in_one_tray() {
     joiners.tally.expect(486, &[0, 7, 8]);
 }
 
-/// The same added to every keeper's word moves the constant alone: here to 256.
 #[test]
 fn constants_of_256() {
     let (random, mut joiners) = (&Random::new(51), Joiners::start());
     for order in Order::all() {
         for liars in 0..=order.f + 1 {
             let mut tray = any_tray(order, random);
-            let place = random.below(tray.secret.len());
-            let more = 256 - u32::from(tray.secret[place]);
-            for keeper in 1..=order.n {
-                let slot = slot(&mut tray.bytes, keeper);
-                let moved = add(share(slot, place), more);
-                lie(slot, place, moved);
-            }
+            tray.move_to_256(random.below(tray.secret.len()));
             for keeper in keepers(order, liars, random) {
                 lie_somewhere(&mut tray, keeper, random);
             }

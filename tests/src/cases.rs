@@ -1,6 +1,8 @@
 //! Orders, heads, letters and trays to try, with the edges of the page more often than chance.
 
 use crate::cut::cut;
+use crate::damage::{lie, share, slot};
+use crate::field::add;
 use crate::letter::{Head, Letter};
 use crate::order::{Order, LONGEST};
 use crate::random::Random;
@@ -68,5 +70,18 @@ impl Tray {
 
     pub fn length(&self) -> u32 {
         self.secret.len() as u32
+    }
+
+    /// Adds to a keeper's word, and makes the check good. Anything but 0 makes it a lie.
+    pub fn add_to(&mut self, keeper: u32, place: usize, more: u32) {
+        let slot = slot(&mut self.bytes, keeper);
+        let sum = add(share(slot, place), more);
+        lie(slot, place, sum);
+    }
+
+    /// The same added to every keeper's word moves the constant alone: here to 256.
+    pub fn move_to_256(&mut self, place: usize) {
+        let more = 256 - u32::from(self.secret[place]);
+        (1..=self.order.n).for_each(|keeper| self.add_to(keeper, place, more));
     }
 }
