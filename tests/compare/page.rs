@@ -2,11 +2,12 @@
 
 use second::block::{check, Words};
 use second::cut::cut;
-use second::damage::{exchange_slot, lie, share, slot};
+use second::damage::{exchange_slot, forge_word, lie, share, slot};
 use second::field::{multiply, reciprocal};
 use second::join::{join, Joined};
 use second::letter::{Fault, Letter};
 use second::order::{Order, SLOT};
+use second::pick::{pick, Picked};
 use second::report::report;
 
 const ORDER: Order = Order { t: 1, f: 1, n: 6 };
@@ -144,6 +145,59 @@ fn the_report_of_the_page() {
                 keeper 6 absent\n\
                 usable 5 need 4 agree 4\n\
                 answer 0\n";
+    let written = report(&[&[1, 1, 6], tray.as_slice()].concat());
+    assert_eq!(String::from_utf8(written).as_deref(), Ok(text));
+}
+
+/// A tray in which keepers 1 to 3 hold these words under stamp 7, and keepers 4 to 6 under stamp 9.
+fn two_groups(words: [u32; 6]) -> Vec<u8> {
+    let mut tray = page_tray(200, 100);
+    for (keeper, word) in (1..).zip(words) {
+        let slot = slot(&mut tray, keeper);
+        lie(slot, 0, word);
+        if keeper > 3 {
+            forge_word(slot, 0, 9, 9);
+        }
+    }
+    tray
+}
+
+fn picked(number: u32, stamp: u32, length: u32) -> Picked {
+    Picked { number, stamp, length }
+}
+
+#[test]
+fn the_pick_goes_down_to_what_joins() {
+    let newer = two_groups([43, 143, 243, 86, 186, 29]);
+    assert_eq!(pick(ORDER, &newer), picked(0, 9, 1));
+    let spoiled = two_groups([43, 143, 243, 86, 186, 0]);
+    assert_eq!(pick(ORDER, &spoiled), picked(0, 7, 1));
+    let beyond = two_groups([43, 143, 243, 3, 4, 5]);
+    assert_eq!(pick(ORDER, &beyond), picked(0, 7, 1));
+}
+
+#[test]
+fn the_pick_of_groups_that_do_not_join() {
+    assert_eq!(pick(ORDER, &two_groups([43, 143, 0, 86, 186, 0])), picked(7, 9, 1));
+    assert_eq!(pick(ORDER, &two_groups([43, 143, 0, 3, 4, 5])), picked(8, 9, 1));
+    assert_eq!(pick(ORDER, &two_groups([0, 1, 2, 86, 186, 0])), picked(7, 9, 1));
+    let mut few = two_groups([43, 143, 243, 86, 186, 29]);
+    [1, 6].into_iter().for_each(|keeper| slot(&mut few, keeper).fill(0));
+    assert_eq!(pick(ORDER, &few), picked(6, 0, 0));
+}
+
+#[test]
+fn the_report_of_groups_that_do_not_join() {
+    let text = "stamp 9 length 1\n\
+                keeper 1 absent\n\
+                keeper 2 absent\n\
+                keeper 3 absent\n\
+                keeper 4 present\n\
+                keeper 5 present\n\
+                keeper 6 present\n\
+                usable 3 need 3 agree 0\n\
+                answer 7\n";
+    let tray = two_groups([43, 143, 0, 86, 186, 0]);
     let written = report(&[&[1, 1, 6], tray.as_slice()].concat());
     assert_eq!(String::from_utf8(written).as_deref(), Ok(text));
 }

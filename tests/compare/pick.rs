@@ -1,7 +1,8 @@
 //! `cs_pick` beside the second program's pick.
 
 use second::cases::{self, Tray, FAR};
-use second::damage::{forge_word, set_word, slot};
+use second::damage::{exchange_slot, forge_word, seal, set_word, slot};
+use second::groups::{self, Groups};
 use second::letter::Head;
 use second::order::{Order, SLOT};
 use second::peer::Peer;
@@ -26,9 +27,16 @@ impl Pickers {
         self.tally.add(picked.number);
         picked
     }
+
+    /// A tray with these groups, of which the answer is known.
+    fn right(&mut self, groups: &Groups, random: &Random) {
+        let picked = self.same(groups.order, &groups.tray(random));
+        assert_eq!(picked, groups.picked(), "{groups:?}");
+    }
 }
 
-/// A tray in which each keeper holds a letter of the group given for it, or nothing.
+/// A tray in which each keeper holds a letter of the group given for it, or nothing. Its words are drawn,
+/// so the letters of a group go together only by chance, or where they are just t+1.
 fn tray_of(order: Order, random: &Random, group: impl Fn(u32) -> Option<(u32, u32)>) -> Vec<u8> {
     let mut tray = vec![0; order.tray()];
     for keeper in 1..=order.n {
@@ -51,11 +59,12 @@ fn one_group_of_every_size() {
                 mixed.contains(&(keeper as usize - 1)).then_some((stamp, length))
             });
             let picked = pickers.same(order, &tray);
-            let found = Picked { number: 0, stamp, length };
-            assert_eq!(picked == found, size >= order.fewest());
+            assert_eq!(picked.number != 6, size >= order.fewest());
+            let named = if picked.number == 6 { (0, 0) } else { (stamp, length) };
+            assert_eq!((picked.stamp, picked.length), named);
         }
     }
-    pickers.tally.expect(2033, &[0, 6]);
+    pickers.tally.expect(2033, &[0, 6, 7, 8]);
 }
 
 /// Orders with room for two groups that are large enough.
@@ -63,7 +72,8 @@ fn wide_orders() -> Vec<Order> {
     Order::all().into_iter().filter(|order| 2 * order.fewest() <= order.n).collect()
 }
 
-/// The greater stamp is picked, however small its group; the larger group is none the better for it.
+/// Where neither joins it is the greater stamp's, however small its group; the larger group is none the
+/// better for it.
 #[test]
 fn two_groups_by_stamp() {
     let (random, mut pickers) = (&Random::new(82), Pickers::start());
@@ -76,13 +86,14 @@ fn two_groups_by_stamp() {
                 Some(if keeper <= few { (high, length) } else { (low, 7) })
             });
             let picked = pickers.same(order, &tray);
-            assert_eq!(picked.stamp, if few == order.fewest() { high } else { low });
+            let greatest = if few == order.fewest() { high } else { low };
+            assert!(picked.number == 0 || picked.stamp == greatest);
         }
     }
-    pickers.tally.expect(400, &[0]);
+    pickers.tally.expect(400, &[0, 7, 8]);
 }
 
-/// One stamp with two lengths is two groups, and the greater length is picked.
+/// One stamp with two lengths is two groups. Where neither joins it is the greater length's.
 #[test]
 fn two_groups_by_length() {
     let (random, mut pickers) = (&Random::new(83), Pickers::start());
@@ -95,10 +106,11 @@ fn two_groups_by_length() {
                 Some((stamp, if keeper <= few { long } else { short }))
             });
             let picked = pickers.same(order, &tray);
-            assert_eq!(picked.length, if few == order.fewest() { long } else { short });
+            let greatest = if few == order.fewest() { long } else { short };
+            assert!(picked.number == 0 || picked.length == greatest);
         }
     }
-    pickers.tally.expect(400, &[0]);
+    pickers.tally.expect(400, &[0, 7, 8]);
 }
 
 #[test]
@@ -113,7 +125,175 @@ fn many_groups_by_chance() {
         });
         pickers.same(order, &tray);
     }
-    pickers.tally.expect(3000, &[0, 6]);
+    pickers.tally.expect(3000, &[0, 6, 7, 8]);
+}
+
+/// Letters of several cuts, some with a constant of 256. Each keeper has one or none, and here and there
+/// it is a lie.
+#[test]
+fn many_cuts_by_chance() {
+    let (random, mut pickers) = (&Random::new(89), Pickers::start());
+    for _ in 0..1500 {
+        let order = cases::order(random);
+        let mut cuts: Vec<Tray> = (0..random.between(1, 4))
+            .map(|_| Tray::cut(order, random.between(1, 3), 1 + random.below(3), random))
+            .collect();
+        cuts.iter_mut().filter(|_| random.once_in(4)).for_each(|cut| cut.move_to_256(0));
+        let mut tray = vec![0; order.tray()];
+        for keeper in 1..=order.n {
+            let mut cut = random.choose(&cuts).clone();
+            match random.below(12) {
+                0 => continue,
+                1 => cut.add_to(keeper, 0, random.between(1, 256)),
+                _ => {}
+            }
+            exchange_slot(&mut tray, &cut.bytes, keeper);
+        }
+        pickers.same(order, &tray);
+    }
+    pickers.tally.expect(1500, &[0, 6, 7, 8]);
+}
+
+/// A newer write that reached so many keepers, and whatever comes of joining it. The others have the
+/// older one, which joins where there are enough of them.
+#[test]
+fn an_unfinished_write() {
+    let (random, mut pickers) = (&Random::new(151), Pickers::start());
+    for order in Order::all() {
+        for newer in 0..=order.n {
+            let older = order.n - newer;
+            let sound = if older >= order.fewest() { 0 } else { 6 };
+            for &number in groups::numbers(order, newer) {
+                let groups = Groups::new(order, &[newer, older], &[number, sound], random);
+                pickers.right(&groups, random);
+            }
+        }
+    }
+    pickers.tally.expect(5500, &[0, 6, 7, 8]);
+}
+
+/// Of as many groups as there is room for each is in its turn the first that joins, and then none is.
+#[test]
+fn each_of_several_groups() {
+    let (random, mut pickers) = (&Random::new(152), Pickers::start());
+    for order in wide_orders() {
+        for count in 2..=(order.n / order.fewest()) as usize {
+            for first in 0..=count {
+                for _ in 0..2 {
+                    let groups = Groups::first_joins(order, count, first, random);
+                    pickers.right(&groups, random);
+                }
+            }
+        }
+    }
+    pickers.tally.expect(1400, &[0, 6, 7, 8]);
+}
+
+/// The most that there can be. Two letters always lie on one line, so 7 is not among the answers.
+#[test]
+fn eight_groups() {
+    let (random, mut pickers) = (&Random::new(153), Pickers::start());
+    let order = Order::new(1, 0, 16);
+    for first in 0..=8 {
+        for _ in 0..20 {
+            pickers.right(&Groups::first_joins(order, 8, first, random), random);
+        }
+        for refusal in [6, 8] {
+            let numbers: Vec<u32> = (0..8).map(|i| if i == first { 0 } else { refusal }).collect();
+            pickers.right(&Groups::large(order, &numbers, random), random);
+        }
+    }
+    pickers.tally.expect(198, &[0, 6, 8]);
+}
+
+/// Two groups for each pair of numbers that their joins can give, in each order with room for that.
+fn pairs(random: &Random) -> Vec<Groups> {
+    let mut pairs = Vec::new();
+    for order in wide_orders().into_iter().filter(|order| 2 * (order.t + 2) <= order.n) {
+        for greater in [0, 6, 7, 8] {
+            for less in [0, 6, 7, 8] {
+                pairs.push(Groups::large(order, &[greater, less], random));
+            }
+        }
+    }
+    pairs
+}
+
+#[test]
+fn two_groups_of_every_number() {
+    let (random, mut pickers) = (&Random::new(154), Pickers::start());
+    for groups in pairs(random) {
+        pickers.right(&groups, random);
+    }
+    pickers.tally.expect(1400, &[0, 6, 7, 8]);
+}
+
+#[test]
+fn two_lengths_of_every_number() {
+    let (random, mut pickers) = (&Random::new(155), Pickers::start());
+    for groups in pairs(random) {
+        pickers.right(&groups.of_one_stamp(random), random);
+    }
+    pickers.tally.expect(1400, &[0, 6, 7, 8]);
+}
+
+/// All heads say one stamp and length, but the letters of most are not good.
+#[test]
+fn heads_alone() {
+    let (random, mut pickers) = (&Random::new(156), Pickers::start());
+    for order in Order::all() {
+        for _ in 0..3 {
+            let groups = Groups::new(order, &[order.n], &[6], random);
+            pickers.right(&groups, random);
+        }
+    }
+    pickers.tally.expect(486, &[6]);
+}
+
+/// Words 6..11 of a head, four of the stamp and two of the length, which no good letter has. Some would
+/// pass for stamp 258 and length 300 where only low bytes are looked at, or where both are put into one
+/// number: 258 times 1024 and 300 is as much as 257 times 1024 and 1324.
+const NO_HEADS: [[u32; 6]; 16] = [
+    [0, 0, 0, 0, 1, 44],
+    [0, 0, 1, 2, 0, 0],
+    [0, 0, 1, 2, 3, 185],
+    [0, 0, 1, 2, 3, 255],
+    [0, 0, 1, 2, 4, 0],
+    [0, 0, 1, 2, 255, 255],
+    [255, 255, 255, 255, 255, 255],
+    [0, 0, 1, 1, 5, 44],
+    [255, 255, 255, 255, 4, 1],
+    [256, 0, 1, 2, 1, 44],
+    [0, 0, 0, 258, 1, 44],
+    [0, 0, 257, 2, 1, 44],
+    [0, 0, 1, 2, 256, 44],
+    [0, 0, 1, 2, 257, 44],
+    [0, 0, 1, 2, 0, 300],
+    [65535, 65535, 65535, 65535, 65535, 65535],
+];
+
+/// Heads like these make no group, and fill up none that is one letter short.
+#[test]
+fn heads_of_no_letter() {
+    let (random, mut pickers) = (&Random::new(157), Pickers::start());
+    for head in NO_HEADS {
+        for order in Order::all().into_iter().step_by(4) {
+            for good in [order.fewest() - 1, order.fewest()] {
+                let mut tray = Tray::cut(order, 258, 300, random).bytes;
+                let mixed = random.sample(order.n as usize, order.n as usize);
+                for index in mixed.into_iter().skip(good as usize) {
+                    let slot = slot(&mut tray, index as u32 + 1);
+                    for block in 0..2 {
+                        (6..).zip(head).for_each(|(i, word)| set_word(slot, block, i, word));
+                        seal(slot, block);
+                    }
+                }
+                let found = Picked { number: 0, stamp: 258, length: 300 };
+                assert_eq!(pickers.same(order, &tray) == found, good == order.fewest());
+            }
+        }
+    }
+    pickers.tally.expect(1300, &[0, 6]);
 }
 
 /// Damaged letters, letters of another order and letters in another's slot count in no group.

@@ -8,10 +8,11 @@ use std::process::{Command, Output, Stdio};
 use std::thread;
 
 use second::cases::{self, Tray};
-use second::damage::{exchange_slot, lie, share, slot};
-use second::field::add;
+use second::damage::{exchange_slot, lie, slot};
+use second::groups::Groups;
 use second::order::{Order, SLOT};
 use second::peer::program;
+use second::pick::Picked;
 use second::random::Random;
 use second::report::report;
 use second::tally::Tally;
@@ -89,6 +90,17 @@ impl Reports {
     fn same_tray(&mut self, order: Order, tray: &[u8]) {
         self.same(&input(order, tray));
     }
+
+    /// A tray with these groups, of which it is known what its report begins and ends with.
+    fn same_groups(&mut self, groups: &Groups, random: &Random) {
+        let input = input(groups.order, &groups.tray(random));
+        let Picked { number, stamp, length } = groups.picked();
+        let text = String::from_utf8(report(&input)).expect("the report is text");
+        let named = text.starts_with(&format!("stamp {stamp} length {length}\n"));
+        assert_eq!(named, number != 6, "{groups:?}");
+        assert!(text.ends_with(&format!("answer {number}\n")), "{groups:?}");
+        self.same(&input);
+    }
 }
 
 fn input(order: Order, tray: &[u8]) -> Vec<u8> {
@@ -101,11 +113,7 @@ fn any_tray(order: Order, random: &Random) -> Tray {
 }
 
 fn lie_everywhere(tray: &mut Tray, keeper: u32, more: u32) {
-    for place in 0..tray.secret.len() {
-        let slot = slot(&mut tray.bytes, keeper);
-        let other = add(share(slot, place), more);
-        lie(slot, place, other);
-    }
+    (0..tray.secret.len()).for_each(|place| tray.add_to(keeper, place, more));
 }
 
 #[test]
@@ -142,17 +150,13 @@ fn too_many_liars() {
     reports.tally.expect(40, &[7]);
 }
 
-/// The same added to every keeper's word moves the constant alone: here to 256.
 #[test]
 fn constants_of_256() {
     let random = &Random::new(93);
     let mut reports = Reports::default();
     for order in Order::all().into_iter().step_by(4) {
         let mut tray = Tray::cut(order, cases::stamp(random), 1, random);
-        let more = 256 - u32::from(tray.secret[0]);
-        for keeper in 1..=order.n {
-            lie_everywhere(&mut tray, keeper, more);
-        }
+        tray.move_to_256(0);
         for keeper in 1..=random.between(0, order.f) {
             lie_everywhere(&mut tray, keeper, 1);
         }
@@ -161,7 +165,7 @@ fn constants_of_256() {
     reports.tally.expect(40, &[8]);
 }
 
-/// A newer cut and an older one share the tray; those outside the group picked are absent.
+/// A newer cut and an older one share the tray; those outside the group named are absent.
 #[test]
 fn two_cuts_in_one_tray() {
     let random = &Random::new(94);
@@ -177,6 +181,36 @@ fn two_cuts_in_one_tray() {
         reports.same_tray(order, &tray.bytes);
     }
     reports.tally.expect(81, &[0, 6]);
+}
+
+/// Two groups for each pair of numbers that their joins can give. The report is of the first that joins;
+/// where none does it is of the greatest that is large enough.
+#[test]
+fn two_groups_of_every_number() {
+    let random = &Random::new(99);
+    let mut reports = Reports::default();
+    let orders = Order::all().into_iter().filter(|order| 2 * order.fewest() + 2 <= order.n);
+    for order in orders.step_by(9) {
+        for greater in [0, 6, 7, 8] {
+            for less in [0, 6, 7, 8] {
+                let groups = Groups::large(order, &[greater, less], random);
+                reports.same_groups(&groups, random);
+                reports.same_groups(&groups.of_one_stamp(random), random);
+            }
+        }
+    }
+    reports.tally.expect(250, &[0, 6, 7, 8]);
+}
+
+/// The most that there can be, of which each is in its turn the first that joins, and then none is.
+#[test]
+fn eight_groups() {
+    let random = &Random::new(100);
+    let mut reports = Reports::default();
+    for first in 0..=8 {
+        reports.same_groups(&Groups::first_joins(Order::new(1, 0, 16), 8, first, random), random);
+    }
+    reports.tally.expect(9, &[0, 8]);
 }
 
 #[test]

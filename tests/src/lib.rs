@@ -6,9 +6,9 @@
 //! Everything here is written to be plainly right and not to be quick, save `fast`, which holds the
 //! best loops we know for the cut and the join, for a fair comparison of speed.
 //!
-//! Beside the rules stand the means to hold the proved library to them: `peer` calls it, `cases` and
-//! `damage` make what it is called with, `document` reads what a page says of it, and `tally` counts
-//! the answers.
+//! Beside the rules stand the means to hold the proved library to them: `peer` calls it, `cases`,
+//! `groups` and `damage` make what it is called with, `document` reads what a page says of it, and
+//! `tally` counts the answers.
 
 pub mod block;
 pub mod cases;
@@ -19,6 +19,7 @@ pub mod desk;
 pub mod document;
 pub mod fast;
 pub mod field;
+pub mod groups;
 pub mod join;
 pub mod letter;
 pub mod order;

@@ -2,6 +2,7 @@
 
 use std::collections::BTreeMap;
 
+use crate::join::join;
 use crate::letter::Letter;
 use crate::order::{Order, SLOT};
 
@@ -20,6 +21,18 @@ pub fn pick(order: Order, tray: &[u8]) -> Picked {
     if tray.len() != order.tray() {
         return refused(4);
     }
+    let mut joined = Vec::new();
+    for (stamp, length) in large_groups(order, tray) {
+        let number = join(order, stamp, length, tray, &mut vec![0; length as usize]).number;
+        joined.push(Picked { number, stamp, length });
+    }
+    let done = joined.iter().find(|picked| picked.number == 0);
+    // where none joins it is the greatest group's own number
+    done.or(joined.first()).copied().unwrap_or(refused(6))
+}
+
+/// Stamp and length of each group of at least t+f+1 letters, the greatest first.
+fn large_groups(order: Order, tray: &[u8]) -> Vec<(u32, u32)> {
     let mut groups: BTreeMap<(u32, u32), u32> = BTreeMap::new();
     for (slot, keeper) in tray.chunks(SLOT).zip(1..) {
         match Letter::read(slot) {
@@ -29,9 +42,6 @@ pub fn pick(order: Order, tray: &[u8]) -> Picked {
             _ => {}
         }
     }
-    let large = |&(_, &size): &(&(u32, u32), &u32)| size >= order.fewest();
-    match groups.iter().rev().find(large) {
-        Some((&(stamp, length), _)) => Picked { number: 0, stamp, length },
-        None => refused(6),
-    }
+    groups.retain(|_, &mut size| size >= order.fewest());
+    groups.into_keys().rev().collect()
 }

@@ -18,7 +18,7 @@ fn answer(number: u32) -> String {
 
 fn report_on(order: Order, tray: &[u8]) -> String {
     let Picked { number, stamp, length } = pick(order, tray);
-    if number != 0 {
+    if ![0, 7, 8].contains(&number) {
         return answer(number);
     }
     let joined = join(order, stamp, length, tray, &mut vec![0; length as usize]);

@@ -1,0 +1,198 @@
+//! Trays with letters of several groups. It is known of each group what its join gives, so it is known
+//! what the pick must answer, whatever either program says.
+
+use std::collections::BTreeSet;
+
+use crate::block::BLOCK;
+use crate::cases::{self, Tray};
+use crate::damage::{exchange_slot, forge_word, lie, slot};
+use crate::letter::{SHARES, SHARES_IN_BLOCK};
+use crate::order::{Order, LONGEST, SLOT};
+use crate::pick::Picked;
+use crate::random::Random;
+
+/// What is to stand in a tray of one stamp and length.
+#[derive(Debug)]
+struct Group {
+    stamp: u32,
+    length: u32,
+    /// So many keepers have a letter whose head says this stamp and length. Not all need be good.
+    size: u32,
+    /// What the join gives: 0, 7, 8, or 6 where fewer than t+f+1 letters are good.
+    number: u32,
+}
+
+/// The groups of a tray, from the greatest down.
+#[derive(Debug)]
+pub struct Groups {
+    pub order: Order,
+    groups: Vec<Group>,
+}
+
+/// The fewest letters whose join can be made to give 7. Through any t+1 there are polynomials.
+fn differing(order: Order) -> u32 {
+    order.fewest().max(order.t + 2)
+}
+
+/// What the join can be made to give where so many keepers have a letter.
+pub fn numbers(order: Order, size: u32) -> &'static [u32] {
+    if size < order.fewest() {
+        &[6]
+    } else if size < differing(order) {
+        &[0, 6, 8]
+    } else {
+        &[0, 6, 7, 8]
+    }
+}
+
+/// Sizes of so many groups that each is large enough and may give any number, where there is room for
+/// that. What keepers are left go to one of them or to none.
+fn sizes(order: Order, count: usize, random: &Random) -> Vec<u32> {
+    let room = |size| size * count as u32 <= order.n;
+    let least = if room(differing(order)) { differing(order) } else { order.fewest() };
+    let mut sizes = vec![least; count];
+    for _ in least * count as u32..order.n {
+        if let Some(size) = sizes.get_mut(random.below(count + 1)) {
+            *size += 1;
+        }
+    }
+    sizes
+}
+
+/// Long enough for each liar to have a word of his own: there are at most f+1, which is at most four.
+fn length(random: &Random) -> u32 {
+    cases::length(random).max(4) as u32
+}
+
+/// So many stamps and lengths, falling. Often two share a stamp, and differ by length alone.
+fn names(count: usize, random: &Random) -> Vec<(u32, u32)> {
+    let stamps: Vec<u32> = (0..count).map(|_| cases::stamp(random)).collect();
+    let mut names = BTreeSet::new();
+    while names.len() < count {
+        names.insert((*random.choose(&stamps), length(random)));
+    }
+    names.into_iter().rev().collect()
+}
+
+impl Groups {
+    /// Groups of these sizes whose joins give these numbers, the greatest first.
+    pub fn new(order: Order, sizes: &[u32], wanted: &[u32], random: &Random) -> Groups {
+        let names = names(sizes.len(), random);
+        let group = |i| {
+            let ((stamp, length), size, number) = (names[i], sizes[i], wanted[i]);
+            assert!(
+                numbers(order, size).contains(&number),
+                "{order:?}: {size} cannot give {number}"
+            );
+            Group { stamp, length, size, number }
+        };
+        Groups { order, groups: (0..sizes.len()).map(group).collect() }
+    }
+
+    /// Large groups whose joins give these numbers.
+    pub fn large(order: Order, numbers: &[u32], random: &Random) -> Groups {
+        Groups::new(order, &sizes(order, numbers.len(), random), numbers, random)
+    }
+
+    /// So many groups of which this one, counted from 0, is the first that joins, or none.
+    pub fn first_joins(order: Order, count: usize, first: usize, random: &Random) -> Groups {
+        let sizes = sizes(order, count, random);
+        let number = |(i, &size): (usize, &u32)| match numbers(order, size) {
+            [_, refusals @ ..] if i < first => *random.choose(refusals),
+            _ if i == first => 0,
+            any => *random.choose(any),
+        };
+        let numbers: Vec<u32> = sizes.iter().enumerate().map(number).collect();
+        Groups::new(order, &sizes, &numbers, random)
+    }
+
+    /// The same under one stamp: they differ by length alone.
+    pub fn of_one_stamp(mut self, random: &Random) -> Groups {
+        let stamp = cases::stamp(random);
+        let mut lengths = BTreeSet::new();
+        while lengths.len() < self.groups.len() {
+            lengths.insert(length(random));
+        }
+        for (group, length) in self.groups.iter_mut().zip(lengths.into_iter().rev()) {
+            (group.stamp, group.length) = (stamp, length);
+        }
+        self
+    }
+
+    /// What the pick must answer.
+    pub fn picked(&self) -> Picked {
+        let large: Vec<&Group> = self.groups.iter().filter(|group| group.number != 6).collect();
+        match large.iter().find(|group| group.number == 0).or(large.first()) {
+            Some(&&Group { stamp, length, number, .. }) => Picked { number, stamp, length },
+            None => Picked { number: 6, stamp: 0, length: 0 },
+        }
+    }
+
+    /// A tray with these groups, whose keepers are mixed.
+    pub fn tray(&self, random: &Random) -> Vec<u8> {
+        let all = self.order.n as usize;
+        let mut keepers = random.sample(all, all).into_iter().map(|index| index as u32 + 1);
+        let mut tray = vec![0; self.order.tray()];
+        for group in &self.groups {
+            let own: Vec<u32> = keepers.by_ref().take(group.size as usize).collect();
+            assert_eq!(own.len(), group.size as usize, "a keeper for each letter");
+            let letters = group.letters(self.order, &own, random);
+            own.iter().for_each(|&keeper| exchange_slot(&mut tray, &letters, keeper));
+        }
+        tray
+    }
+}
+
+impl Group {
+    /// A tray that holds the letters of these keepers.
+    fn letters(&self, order: Order, keepers: &[u32], random: &Random) -> Vec<u8> {
+        let length = self.length as usize;
+        let mut cut = Tray::cut(order, self.stamp, length, random);
+        if self.number == 8 {
+            cut.move_to_256(random.below(length));
+        }
+        let good = match self.number {
+            6 => random.between(0, order.fewest() - 1).min(self.size),
+            7 => random.between(differing(order), self.size),
+            _ => random.between(order.fewest(), self.size),
+        };
+        // Need is good - f or t+f+1, so as many may lie as is the less of f and good - (t+f+1).
+        let borne = order.f.min(good.saturating_sub(order.fewest()));
+        let liars = if self.number == 7 { borne + 1 } else { random.between(0, borne) };
+        let (good, bad) = keepers.split_at(good as usize);
+        // No two lie at the same word. So at a word where other polynomials differ from the cut's they
+        // match t letters at most and the one that lies there, which is not enough.
+        for (&keeper, place) in good.iter().zip(random.sample(length, liars as usize)) {
+            cut.add_to(keeper, place, random.between(1, 256));
+        }
+        bad.iter().for_each(|&keeper| spoil(&mut cut, keeper, random));
+        cut.bytes
+    }
+}
+
+/// Spoils a keeper's letter, so that it counts in no group; what its head says of stamp and length stays.
+fn spoil(cut: &mut Tray, keeper: u32, random: &Random) {
+    let (order, length) = (cut.order, cut.secret.len());
+    let slot = slot(&mut cut.bytes, keeper);
+    let blocks = length.div_ceil(SHARES_IN_BLOCK);
+    let block = random.below(blocks);
+    let mut forge_all = |word, value| (0..blocks).for_each(|i| forge_word(slot, i, word, value));
+    match random.below(9) {
+        // a good letter of another keeper, or of another order
+        0 => forge_all(5, keeper % order.n + 1),
+        1 => {
+            let mut others = Order::all();
+            others.retain(|&other| other != order && other.has_keeper(keeper));
+            let other = random.choose(&others);
+            (2..).zip([other.t, other.f, other.n]).for_each(|(word, value)| forge_all(word, value));
+        }
+        2 => slot[block * BLOCK + 2 * SHARES + random.below(BLOCK - 2 * SHARES)] ^= 1,
+        3 => forge_word(slot, block, SHARES + random.below(200), 257),
+        4 => forge_word(slot, block, random.below(2), 82),
+        5 => forge_word(slot, block, 12 + random.below(4), 5),
+        6 if blocks > 1 => forge_word(slot, blocks - 1, 6 + random.below(6), 256),
+        7 if length < LONGEST => lie(slot, length, random.between(1, 256)),
+        _ if blocks < 4 => slot[SLOT - 1 - random.below(BLOCK)] = 1,
+        _ => slot[block * BLOCK + 508 + random.below(4)] ^= 1,
+    }
+}
