@@ -326,22 +326,34 @@ fn a_desk() {
     }
 }
 
+/// The tray of a row of picks.
+fn tray_of_picks(row: &[&str], both: &mut Both) -> Vec<u8> {
+    let mut tray = vec![0; ORDER.tray()];
+    for (keeper, cell) in (1..).zip(&row[..6]) {
+        let numbers: Vec<u32> = cell.split('/').filter_map(optional).collect();
+        let [stamp, length, made @ ..] = &numbers[..] else {
+            assert_eq!(*cell, "-");
+            continue;
+        };
+        let length = *length as usize;
+        let cut = both.cut(ORDER, *stamp, &vec![200; length], &vec![100; length]);
+        exchange_slot(&mut tray, &cut, keeper);
+        for &word in made {
+            (0..length).for_each(|place| lie(slot(&mut tray, keeper), place, word));
+        }
+    }
+    tray
+}
+
+const PICKS: &str = "| 1 | 2 | 3 | 4 | 5 | 6 | number | stamp | length |";
+
 #[test]
 fn picks() {
     let (page, mut both) = (page(), Both::start());
-    let rows = table(&page, "| 1 | 2 | 3 | 4 | 5 | 6 | number | stamp | length |");
-    assert_eq!(rows.len(), 5);
+    let rows = table(&page, PICKS);
+    assert_eq!(rows.len(), 12);
     for row in rows {
-        let mut tray = vec![0; ORDER.tray()];
-        for (keeper, cell) in (1..).zip(&row[..6]) {
-            let Some((stamp, length)) = cell.split_once('/') else {
-                assert_eq!(*cell, "-");
-                continue;
-            };
-            let length = number(length) as usize;
-            let cut = both.cut(ORDER, number(stamp), &vec![200; length], &vec![100; length]);
-            exchange_slot(&mut tray, &cut, keeper);
-        }
+        let tray = tray_of_picks(&row, &mut both);
         let [number, stamp, length] = [6, 7, 8].map(|i| number(row[i]));
         assert_eq!(both.pick(ORDER, &tray), Picked { number, stamp, length }, "{row:?}");
     }
@@ -381,15 +393,25 @@ fn a_comparison() {
     }
 }
 
-/// The program `report` is held to the same lines by its own comparison.
+/// Sees that the report on a tray is what stands below this heading. The program `report` is held to the
+/// same lines by its own comparison.
+fn is_reported(page: &str, heading: &str, tray: &[u8]) {
+    let written = report(&[&[1, 1, 6], tray].concat());
+    let lines: String = fenced(page, heading).iter().map(|line| format!("{line}\n")).collect();
+    assert_eq!(String::from_utf8(written), Ok(lines));
+}
+
 #[test]
 fn a_report() {
-    let page = page();
     let mut tray = Both::start().cut_byte(200, 100);
     lie(slot(&mut tray, 3), 0, 0);
     slot(&mut tray, 6).fill(0);
-    let written = report(&[&[1, 1, 6], tray.as_slice()].concat());
-    let lines: String =
-        fenced(&page, "### A report").iter().map(|line| format!("{line}\n")).collect();
-    assert_eq!(String::from_utf8(written), Ok(lines));
+    is_reported(&page(), "### A report", &tray);
+}
+
+#[test]
+fn a_report_of_a_refusal() {
+    let page = page();
+    let tray = tray_of_picks(&table(&page, PICKS)[4], &mut Both::start());
+    is_reported(&page, "### A report of a refusal", &tray);
 }
