@@ -27,8 +27,9 @@ enum { NO_ACCESS = 0, READ_AND_WRITE = 3, SHARED_AND_OF_NO_FILE = 0x21 };
 #define NO_MEMORY ((void *)-1)
 
 /*
- * A call and what it is lent, which comes of two cuts with n=16 and 952 bytes, the most there can be. A
- * set of keepers has keeper x as bit x-1.
+ * A call and what it is lent, which comes of two cuts with n=16 and 952 bytes, the most there can be. Where
+ * there are more groups, each has two cuts of its own: of g groups, keeper x is in number (x-1) mod g, and
+ * the stamps of number k are by k greater than those of number 0. A set of keepers has keeper x as bit x-1.
  */
 typedef struct {
     const char *call, *input;
@@ -38,6 +39,7 @@ typedef struct {
     uint32_t same;   /* so many words are the same in both cuts */
     uint32_t absent; /* keepers whose slots hold nothing */
     uint32_t others; /* keepers whose slots hold the other cut's letters */
+    uint32_t more;   /* so many groups are there beside number 0 */
     uint32_t places; /* so many has the list that a comparison is lent */
     uint32_t number; /* the answer that is to be given */
 } measurement;
@@ -53,7 +55,7 @@ static measurement now;
 /* What one process leaves for the next. A call that goes past the ground crashes at the guard. */
 static struct {
     uint8_t guard[LIMIT], ground[GROUND];
-    uint8_t tray[TRAY], other[TRAY], secret[LONGEST], room[LONGEST];
+    uint8_t tray[TRAY], cut[TRAY], other[TRAY], secret[LONGEST], room[LONGEST];
     uint16_t random[MOST_T * LONGEST];
     cs_difference list[CS_MOST_DIFFERENCES];
     uint8_t paint;
@@ -115,20 +117,22 @@ static void draw_random(uint32_t from) {
 }
 
 static void lay_slot(uint32_t k) {
-    uint8_t *slot = common->tray + k * SLOT;
-    const uint8_t *other = common->other + k * SLOT;
-    for (size_t i = 0; i < SLOT; i++) {
-        if (now.others >> k & 1) slot[i] = other[i];
-        if (now.absent >> k & 1) slot[i] = 0;
+    const uint8_t *from = now.others >> k & 1 ? common->other : common->cut;
+    for (size_t i = k * SLOT; i < (k + 1) * SLOT; i++) {
+        common->tray[i] = now.absent >> k & 1 ? 0 : from[i];
     }
 }
 
-static void lay(void) {
+static void lay_group(uint32_t g) {
     draw_random(0);
-    if (cut(common->tray, STAMP) != 0) _exit(1);
+    if (cut(common->cut, STAMP + g) != 0) _exit(1);
     draw_random(now.t * now.same);
-    if (cut(common->other, STAMP - now.age) != 0) _exit(1);
-    for (uint32_t k = 0; k < N; k++) lay_slot(k);
+    if (cut(common->other, STAMP + g - now.age) != 0) _exit(1);
+    for (uint32_t k = g; k < N; k += now.more + 1) lay_slot(k);
+}
+
+static void lay(void) {
+    for (uint32_t g = 0; g <= now.more; g++) lay_group(g);
     for (size_t i = 0; i < GROUND; i++) common->ground[i] = common->paint;
 }
 
@@ -191,7 +195,13 @@ static const measurement chosen[] = {
     {"store", "the same stamp, another word", run_store, .t = 7, .f = 2, .same = 951, .number = 15},
     {"fetch", "a letter of four blocks", run_fetch, .t = 7, .f = 2},
     {"pick", "t=7 f=2, one group", run_pick, .t = 7, .f = 2},
-    {"pick", "t=3 f=2, two groups", run_pick, .t = 3, .f = 2, .age = 1, .others = 0x5555},
+    {"pick", "t=7 f=2, one group, 3 lie", run_pick, .t = 7, .f = 2, .others = 0x0049, .number = 7},
+    {"pick", "t=3 f=2, two groups, 3 lie in the newer", run_pick, .t = 3, .f = 2, .more = 1,
+     .others = 0x002a},
+    {"pick", "t=1 f=1, five groups, none joins", run_pick, .t = 1, .f = 1, .more = 4,
+     .others = 0x003f, .number = 7},
+    {"pick", "t=1 f=0, eight groups, none joins", run_pick, .t = 1, .more = 7, .others = 0x00ff,
+     .number = 8},
     {"compare", "equal trays", run_compare, .t = 7, .f = 2, .others = 0xffff},
     {"compare", "two cuts", run_compare, .t = 7, .f = 2, .places = CS_MOST_DIFFERENCES},
     {"compare", "two cuts, too short a list", run_compare, .t = 7, .f = 2, .places = 1, .number = 18},
@@ -202,8 +212,8 @@ static const measurement chosen[] = {
 };
 
 /* The search goes over all keepers, and goes far where the first are absent. */
-static measurement drawn_join(void) {
-    measurement m = {"join", "", run_join, .t = 1 + draw(MOST_T)};
+static measurement drawn(const char *call, uint32_t (*run)(void)) {
+    measurement m = {call, "", run, .t = 1 + draw(MOST_T)};
     uint32_t most_f = (N - 1 - m.t) / 4;
     m.f = draw((m.t < most_f ? m.t : most_f) + 1);
     m.absent = (1u << draw(N - m.t - m.f)) - 1;
@@ -227,11 +237,11 @@ static int tell_drawn(measurement m, outcome o) {
 }
 
 /* Only the deepest is told, or the first that is not as it should be. */
-static int measure_drawn(void) {
-    measurement deepest = drawn_join();
+static int measure_drawn(const char *call, uint32_t (*run)(void)) {
+    measurement deepest = drawn(call, run);
     outcome most = measure(&deepest);
     for (int i = 1; i < TRIES && within_limit(most); i++) {
-        measurement m = drawn_join();
+        measurement m = drawn(call, run);
         outcome o = measure(&m);
         if (!within_limit(o) || o.later > most.later) deepest = m, most = o;
     }
@@ -254,6 +264,6 @@ int main(void) {
     }
     printf("bytes of stack, in the first call of a process and in a later one; the limit is %d\n",
            LIMIT);
-    int good = measure_chosen() & measure_drawn();
+    int good = measure_chosen() & measure_drawn("join", run_join) & measure_drawn("pick", run_pick);
     return fflush(NULL) == 0 && good ? 0 : 1;
 }
