@@ -6,6 +6,8 @@ pub mod Accepted
 pub mod Recovery
 -- "a cut tray must be accepted"
 pub mod Untouched
+-- the pick's number is that of the join of what it names
+pub mod Named
 -- "a sound, older stamp went unread": it is read
 pub mod OlderWrite
 -- demand 3: t keepers learn nothing of the secret

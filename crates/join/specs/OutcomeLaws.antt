@@ -50,6 +50,14 @@ module _ {O : Ops} {t f n l : ℕ} {us : ℕ → Bool} {word : ℕ → ℕ → �
     outcome-same (wide ps R e) D = let g = rw e at (reaches-outcome D ps R) in (sym (g .0), sym (g .1))
     outcome-same (joined ps R e) D = let g = rw e at (reaches-outcome D ps R) in (sym (g .0), sym (g .1))
 
+-- what the room held changes no number
+pub outcome-room : {O : Ops} {t f n l : ℕ} {us : ℕ → Bool} {word : ℕ → ℕ → ℕ} {room left : List ℕ} {result : Joined} (other : List ℕ)
+    → Outcome O t f n us word l room result left → (left′ : List ℕ) × Outcome O t f n us word l other result left′
+outcome-room other (few h) = (other, few h)
+outcome-room other (apart h none) = (other, apart h none)
+outcome-room other (wide ps R e) = (other, wide ps R e)
+outcome-room other (joined ps R e) = (constants ps, joined ps R e)
+
 -- what the usable letters come to is said of the scan: the same scan, the same outcome
 pub outcome-scan : {O : Ops} {t f n l : ℕ} {us us′ : ℕ → Bool} {word word′ : ℕ → ℕ → ℕ} {room left : List ℕ} {result : Joined} → SameScan n l us us′ word word′
     → Outcome O t f n us word l room result left → Outcome O t f n us′ word′ l room result left
