@@ -1,6 +1,6 @@
 -- What the pick names is what the join finds: told that stamp and length it gives the pick's number, whatever the room held.
 -- Assumes nothing.
-use Prim.Native.Nat.{ℕ, _≤_}
+use Prim.Native.Nat.{ℕ, _≤_, _<_}
 use mathlib.Core.Path.{_≡_, sym, ap, _∙_}
 use mathlib.Core.List.{List}
 use native.Mathlib.Omega.{arith}
@@ -9,29 +9,18 @@ use Rattle.algebra.specs.Field.{Ops}
 use Rattle.header.specs.declared.order.Order.{Order}
 use Rattle.cut.specs.LetterField.{LetterField, keepers-apart}
 use Rattle.join.specs.declared.Joined.{Joined}
-use Rattle.join.specs.Join.{answer, joinRefusal, JoinDone, refused, judged}
-use Rattle.join.specs.OutcomeLaws.{outcome-same, outcome-room}
+use Rattle.join.specs.DoneLaws.{done-any-room}
+use Rattle.join.specs.Join.{joinRefusal, JoinDone}
 use Rattle.pick.specs.declared.Picked.{Picked}
 use Rattle.pick.specs.Pick.{JoinGives, PickDone}
 use Rattle.pick.specs.Pick as pick
 use Rattle.demands.specs.JoinAnswers.{not-refused-order}
 
-same-refusal : (order : Order) (stamp l : ℕ) (tray room other : List ℕ) → length room ≡ length other → joinRefusal order stamp l tray room ≡ joinRefusal order stamp l tray other
-unfolding joinRefusal
-same-refusal order stamp l tray room other s = rw s
-
--- the join's numbers do not hang on what the room held
-pub join-any-room : {O : Ops} → LetterField O → {order : Order} {stamp l : ℕ} {tray room other left left′ : List ℕ} {result result′ : Joined} → length room ≡ length other
-    → JoinDone O order stamp l tray room result left → JoinDone O order stamp l tray other result′ left′ → result ≡ result′
-join-any-room F {order} {stamp} {l} {tray} {room} {other} s (refused h) (refused h′) = ap (λ (number : ℕ). answer number 0 0 0) (same-refusal order stamp l tray room other s)
-join-any-room F {order} {stamp} {l} {tray} {room} {other} s (refused h) (judged e D) = absurd (h (same-refusal order stamp l tray room other s ∙ e))
-join-any-room F {order} {stamp} {l} {tray} {room} {other} s (judged e D) (refused h) = absurd (h (sym (same-refusal order stamp l tray room other s) ∙ e))
-join-any-room F {order} {stamp} {l} {tray} {room} {other} s (judged e D) (judged e′ D′) =
-    outcome-same (F .laws) (keepers-apart F order (not-refused-order order stamp l tray room e)) (outcome-room other D .1) D′ .0
-
 module _ {O : Ops} (F : LetterField O) {order : Order} {tray room left : List ℕ} {result : Joined} where
   given : {stamp l number : ℕ} → JoinGives O order tray stamp l number → length room ≡ l → JoinDone O order stamp l tray room result left → result .number ≡ number
-  given {l = l} J s D = ap (λ (r : Joined). r .number) (join-any-room F (s ∙ sym (length-replicate l 0)) D (J .done)) ∙ J .numbered
+  given {stamp} {l} J s D =
+      let apart : joinRefusal order stamp l tray room ≡ 0 → order .n < O .q = λ e. keepers-apart F order (not-refused-order order stamp l tray room e) in
+      ap (λ (r : Joined). r .number) (done-any-room (F .laws) apart (s ∙ sym (length-replicate l 0)) D (J .done)) ∙ J .numbered
 
   -- where the pick names a stamp and length, their join has the pick's number
   pub picked-joins : {p : Picked} → PickDone O order tray p → 1 ≤ p .stamp → length room ≡ p .length → JoinDone O order (p .stamp) (p .length) tray room result left

@@ -24,7 +24,6 @@ use Rattle.pick.specs.declared.Picked.{Picked}
 use Rattle.pick.specs.Pick.{NotBefore, First, picked, PickDone}
 use Rattle.pick.specs.Pick as pick
 use Rattle.pick.specs.JoinGivesLaws.{gives-same}
-use Rattle.pick.specs.PickedLaws.{large-terms}
 use Rattle.pick.specs.RefusalLaws.{pick-facts}
 use Rattle.compare.specs.declared.Compared.{Compared}
 use Rattle.compare.specs.Compare.{CompareDone}
@@ -108,9 +107,8 @@ pick-same F (pick.stuck number s k e never one J) (pick.none p g) = absurd (g s 
 pick-same F (pick.stuck number s k e never one J) (pick.chosen stamp l p two) = absurd (never stamp l (two .has))
 pick-same F {order} {tray} (pick.stuck number s k e never one J) (pick.stuck number′ stamp l p never′ two J′) =
     let same = first-one one two in
-    let facts = pick-facts order tray e in
-    let apart = keepers-apart F order (facts-lawful-order order (facts .of-order)) in
-    let numbers = gives-same (large-terms order tray stamp l (two .has)) (facts .slots) (F .laws) apart (rw (same .0, same .1) at J) J′ in
+    let apart = keepers-apart F order (facts-lawful-order order (pick-facts order tray e .of-order)) in
+    let numbers = gives-same (F .laws) apart (rw (same .0, same .1) at J) J′ in
     λ i. picked (numbers i) (same .0 i) (same .1 i)
 
 -- the report: the bytes, with the number that they end in

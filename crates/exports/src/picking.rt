@@ -1,4 +1,4 @@
-// cs_pick: which stamp and length of a tray to read.
+// cs_pick: which stamp and length of a tray to join.
 ghost use Rattle.field.specs.Modulo.{mod257};
 ghost use Rattle.pick.specs.Pick.{PickDone};
 ghost use Rattle.exports.specs.Told.{orderTold};

@@ -1,3 +1,4 @@
+pub mod DoneLaws
 pub mod Join
 pub mod Judged
 pub mod OutcomeLaws

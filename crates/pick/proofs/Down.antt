@@ -94,7 +94,7 @@ module _ {O : Ops} {order : Order} {tray keys : List ℕ} (are : KeysOf order tr
           terms = next-terms are is;
           none-joins = λ s k large above zero.
               ⊎-elim
-              (λ (e : (stampIn key ≡ s) × (lengthIn key ≡ k)). fails (gives-same (before .terms some) (pick-facts order tray right .slots) F apart J (rw (e .0, e .1) zero)))
+              (λ (e : (stampIn key ≡ s) × (lengthIn key ≡ k)). fails (gives-same F apart J (rw (e .0, e .1) zero)))
               (λ past. before .none-joins s k large past zero) (at-or-above s k large above);
           answered = now;
         }

@@ -2,7 +2,6 @@
 -- Assumes nothing.
 use Prim.Native.Nat.{ℕ, _+_, _-_, _≤_, _<_}
 use mathlib.Core.Path.{_≡_, sym, ap, _∙_}
-use mathlib.Core.Bool.{Bool, true}
 use mathlib.Core.List.{List}
 use mathlib.Core.Logic.{⊎-elim}
 use native.Mathlib.Nat.{add-sub-cancel, eq-zero-or-pos}
@@ -10,31 +9,15 @@ use native.Mathlib.Omega.{arith}
 use lib.Dec.{eqb}
 use lib.ListN.{getD}
 use borrow.Author.Tests.{eqb-true, eq-eqb}
-use Rattle.lists.specs.Chosen.{chosen, length-chosen, chosen-in, chosen-passes}
-use Rattle.lists.specs.Count.{count, count-mono}
+use Rattle.lists.specs.Count.{count-mono}
 use Rattle.lists.specs.From.{from, from-in}
-use Rattle.lists.specs.Member.{in-getD}
 use Rattle.header.specs.declared.order.Order.{Order}
 use Rattle.header.specs.TermsLaws.{TermsFacts}
 use Rattle.tray.specs.Tray.{usable, usableMany}
 use Rattle.pick.specs.Keys.{keyOf, stampIn, lengthIn, keyAt, sizeOf, KeysOf, NextOf}
+use Rattle.pick.specs.Passing.{some-passing}
 use Rattle.pick.specs.Pick.{Large}
 use Rattle.pick.proofs.Said.{usable-key, key-terms}
-
--- a keeper of 1..n that passes a test
-record Passing (test : ℕ → Bool) (n : ℕ) : Type 0 where
-  place : ℕ
-  within : place < n
-  passes : test (place + 1) ≡ true
-
-some-passing : (test : ℕ → Bool) (n : ℕ) → 1 ≤ count test (from 1 n) → Passing test n
-some-passing test n some =
-    let who = chosen test (from 1 n) in
-    let x = getD who 0 0 in
-    let here = in-getD who 0 (omega (arith, length-chosen test (from 1 n))) in
-    let facts = from-in 1 n x (chosen-in test (from 1 n) x here) in
-    let keeper : x - 1 + 1 ≡ x = omega arith in
-    record { place = x - 1; within = omega arith; passes = ap test keeper ∙ chosen-passes test (from 1 n) x here }
 
 module _ {order : Order} {tray keys : List ℕ} (are : KeysOf order tray keys) where
   group-most : (stamp l : ℕ) → usableMany order stamp l tray ≤ sizeOf keys (order .n) (keyOf stamp l)
@@ -63,6 +46,6 @@ module _ {order : Order} {tray keys : List ℕ} (are : KeysOf order tray keys) w
         let here : keyAt order tray place ≡ best = sym (are .at place (one .within)) ∙ held in
         rw here at (key-terms order tray place (omega arith))
 
--- and below what its bound does not pass
+-- and below every number that its bound is not above
 pub next-below : {keys : List ℕ} {n least bound best : ℕ} (top : ℕ) → bound ≤ top → 1 ≤ top → NextOf keys n least bound best → best < top
 next-below {best = best} top most some next = ⊎-elim (λ (e : best ≡ 0). omega arith) (λ least. omega (arith, next .large least .0)) (eq-zero-or-pos best)

@@ -1,5 +1,5 @@
--- What the number of a group's join says of the group, where its stamp and length are lawful: 6 that it is not large, any other that it is; and it is
--- the only number.
+-- What the number of a group's join says of the group, where its stamp and length are lawful: 6 that it is not large, any other that it is; and that
+-- there is only one.
 -- Assumes nothing.
 use Prim.Native.Nat.{ℕ, _*_, _<_}
 use mathlib.Core.Path.{_≡_, refl, sym, ap, _∙_}
@@ -13,7 +13,7 @@ use Rattle.header.specs.TermsLaws.{TermsFacts}
 use Rattle.agree.specs.ReachesLaws.{reaches-many}
 use Rattle.join.specs.declared.Joined.{Joined}
 use Rattle.join.specs.Join.{joinRefusal, JoinDone, refused, judged, few, apart, wide, joined}
-use Rattle.join.specs.OutcomeLaws.{outcome-same}
+use Rattle.join.specs.DoneLaws.{done-any-room}
 use Rattle.join.specs.RefusalLaws.{facts-accepted}
 use Rattle.pick.specs.Pick.{Large, JoinGives}
 
@@ -54,12 +54,6 @@ module _ {O : Ops} {order : Order} {tray : List ℕ} {stamp l : ℕ} (terms : Te
   pub gives-number : {number : ℕ} → JoinGives O order tray stamp l number → Large order tray stamp l → (number ≡ 0 → ⊥) → (number ≡ 7) ⊎ (number ≡ 8)
   gives-number J large other = rw (J .numbered) at (number-done (J .done) large) other
 
-  module _ (F : IsField O) (apart-keepers : order .n < O .q) where
-    done-same : {result result′ : Joined} {left left′ : List ℕ} → JoinDone O order stamp l tray (replicate l 0) result left
-        → JoinDone O order stamp l tray (replicate l 0) result′ left′ → result ≡ result′
-    done-same (refused h) D = absurd (h (accepted order tray stamp l terms slots))
-    done-same (judged e D) (refused h) = absurd (h (accepted order tray stamp l terms slots))
-    done-same (judged e D) (judged e′ D′) = outcome-same F apart-keepers D D′ .0
-
-    pub gives-same : {number number′ : ℕ} → JoinGives O order tray stamp l number → JoinGives O order tray stamp l number′ → number ≡ number′
-    gives-same J J′ = sym (J .numbered) ∙ (ap (λ (r : Joined). r .number) (done-same (J .done) (J′ .done)) ∙ J′ .numbered)
+pub gives-same : {O : Ops} → IsField O → {order : Order} {tray : List ℕ} {stamp l number number′ : ℕ} → order .n < O .q → JoinGives O order tray stamp l number
+    → JoinGives O order tray stamp l number′ → number ≡ number′
+gives-same F told J J′ = sym (J .numbered) ∙ (ap (λ (r : Joined). r .number) (done-any-room F (λ e. told) refl (J .done) (J′ .done)) ∙ J′ .numbered)

@@ -1,4 +1,4 @@
--- The pick: which stamp and length of a tray to read.
+-- The pick: which stamp and length of a tray to join.
 -- Assumes nothing.
 use Prim.Native.Nat.{ℕ, _+_, _*_, _≤_, _<_}
 use mathlib.Core.Path.{_≡_}

@@ -1,4 +1,4 @@
-// The pick: which stamp and length of a tray to read.
+// The pick: which stamp and length of a tray to join.
 ghost use mathlib.Core.Path.{_≡_};
 ghost use Prim.Native.Nat.{_<_, _≤_};
 ghost use lib.ListN.{length};
@@ -70,6 +70,7 @@ fn go_down(o: Order, tray: &[u8], keys: &[u64], rows: &mut [u16]) -> Picked
     let least = o.t + o.f + 1;
     let mut number = 6;
     let mut top = 0;
+    // above every key: a stamp has 32 bits, a length has 10
     let mut key = next_of(keys, o.n, least, 4398046511104);
     while key != 0 {
         let tried = joined(o, tray, key, rows);

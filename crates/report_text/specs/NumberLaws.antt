@@ -19,7 +19,7 @@ use Rattle.header.specs.Order.{lawfulOrder}
 use Rattle.header.specs.Terms.{lawfulStamp, lawfulLength, termsNumber}
 use Rattle.pick.specs.declared.Picked.{Picked}
 use Rattle.pick.specs.Pick.{PickDone}
-use Rattle.pick.specs.PickedLaws.{picked-number}
+use Rattle.pick.specs.NumberLaws.{picked-number}
 use Rattle.join.specs.declared.Joined.{Joined}
 use Rattle.join.specs.Join.{JoinDone, joinRefusal}
 use Rattle.join.specs.Join as join
