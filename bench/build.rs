@@ -1,5 +1,5 @@
-//! Links the proved library, which `native` has built for this machine, and gfshare. On x86-64 also the
-//! library for x86-64-v3, and the second program, compiled once more for that.
+//! Links the proved library and its sealing of one block, which `native` has built for this machine, and
+//! gfshare. On x86-64 also both for x86-64-v3, and the second program, compiled once more for that.
 
 use std::env;
 use std::process::Command;
@@ -11,8 +11,10 @@ fn main() {
     println!("cargo:rustc-link-search=native={LIBRARY}");
     println!("cargo:rustc-link-lib=gfshare");
     link("exports");
+    link("seal");
     if told("CARGO_CFG_TARGET_ARCH") == "x86_64" {
         link("exports_v3");
+        link("seal_v3");
         compile_second_for_v3();
     }
 }

@@ -1,6 +1,9 @@
 //! The proved library's calls, with the second program's types, so that both are called alike: as it is
 //! compiled for any processor, and on x86-64 also as it is compiled for x86-64-v3.
 
+use std::mem::MaybeUninit;
+
+use second::block::BLOCK;
 use second::join::Joined;
 use second::letter::{Fault, Head};
 use second::order::Order;
@@ -52,6 +55,13 @@ pub struct Difference {
     pub second: u16,
 }
 
+/// Bytes that are lent for writing, as one function of the library hands them to another.
+#[repr(C)]
+struct Lent {
+    bytes: *mut u8,
+    count: usize,
+}
+
 impl From<JoinResult> for Joined {
     fn from(result: JoinResult) -> Joined {
         let JoinResult { number, usable, need, set } = result;
@@ -77,7 +87,15 @@ impl From<ReadResult> for Result<Head, Fault> {
 }
 
 macro_rules! calls {
-    ($library:ident, $cut:literal, $pick:literal, $join:literal, $read:literal, $compare:literal) => {
+    (
+        $library:ident,
+        $cut:literal,
+        $pick:literal,
+        $join:literal,
+        $read:literal,
+        $compare:literal,
+        $seal:literal
+    ) => {
         pub mod $library {
             use super::*;
 
@@ -118,8 +136,14 @@ macro_rules! calls {
                     room_length: usize,
                 ) -> JoinResult;
 
+                /// The place of its result is handed over first, and comes back. On x86-64 that is C's
+                /// own way with so long a result; elsewhere it is the module's alone.
                 #[link_name = $read]
-                fn cs_read(slot: *const u8, slot_length: usize) -> ReadResult;
+                fn cs_read(
+                    result: *mut ReadResult,
+                    slot: *const u8,
+                    slot_length: usize,
+                ) -> *mut ReadResult;
 
                 #[link_name = $compare]
                 fn cs_compare(
@@ -133,6 +157,10 @@ macro_rules! calls {
                     list: *mut Difference,
                     list_count: usize,
                 ) -> Compared;
+
+                /// No public call. The block must have 512 bytes.
+                #[link_name = $seal]
+                fn block_check_seal(block: *const Lent);
             }
 
             pub fn cut(
@@ -182,8 +210,13 @@ macro_rules! calls {
             }
 
             pub fn read(slot: &[u8]) -> Result<Head, Fault> {
-                // SAFETY: as in the cut.
-                unsafe { cs_read(slot.as_ptr(), slot.len()) }.into()
+                let mut result = MaybeUninit::uninit();
+                // SAFETY: as in the cut, and every word of the result is written.
+                unsafe {
+                    cs_read(result.as_mut_ptr(), slot.as_ptr(), slot.len());
+                    result.assume_init()
+                }
+                .into()
             }
 
             pub fn compare(
@@ -210,10 +243,16 @@ macro_rules! calls {
                     )
                 }
             }
+
+            pub fn seal(block: &mut [u8; BLOCK]) {
+                let lent = Lent { bytes: block.as_mut_ptr(), count: BLOCK };
+                // SAFETY: as in the cut, and a block has 512 bytes.
+                unsafe { block_check_seal(&lent) }
+            }
         }
     };
 }
 
-calls!(plain, "cs_cut", "cs_pick", "cs_join", "cs_read", "cs_compare");
+calls!(plain, "cs_cut", "cs_pick", "cs_join", "cs_read", "cs_compare", "seal");
 #[cfg(target_arch = "x86_64")]
-calls!(v3, "v3_cs_cut", "v3_cs_pick", "v3_cs_join", "v3_cs_read", "v3_cs_compare");
+calls!(v3, "v3_cs_cut", "v3_cs_pick", "v3_cs_join", "v3_cs_read", "v3_cs_compare", "v3_seal");

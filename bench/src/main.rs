@@ -1,7 +1,7 @@
-//! Times the library's cut, join and reading beside the second program's best loops, gfshare and ssss, its pick
-//! beside the joins that it takes, and its comparison of trays beside memcmp. Reads the facts about this run,
-//! and writes the machine's own section of the page and its picture. Ends with 1 if a limit is not met, and
-//! with another number than 0 if nothing was written.
+//! Times the library's cut and join beside the second program's best loops, gfshare and ssss, its pick beside
+//! the joins that it takes, its comparison of trays beside memcmp, and its reading of letters and sealing of a
+//! block alone. Reads the facts about this run, and writes the machine's own section of the page and its
+//! picture. Ends with 1 if a limit is not met, and with another number than 0 if nothing was written.
 
 mod case;
 mod comparing;
@@ -17,6 +17,7 @@ mod picture;
 mod programs;
 mod race;
 mod races;
+mod sealing;
 mod sides;
 mod ssss;
 #[cfg(target_arch = "x86_64")]

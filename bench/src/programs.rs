@@ -1,6 +1,7 @@
 //! Who does what the library does: the library and the second program, each as it is compiled for any
 //! processor of the machine's kind, and where the processor has x86-64-v3 as it is compiled for that.
 
+use second::block::BLOCK;
 use second::fast;
 use second::join::Joined;
 use second::letter::{Fault, Head};
@@ -20,13 +21,15 @@ pub type PickCall = fn(Order, &[u8]) -> Picked;
 pub type JoinCall = fn(Order, u32, u32, &[u8], &mut [u8]) -> Joined;
 pub type ReadCall = fn(&[u8]) -> Result<Head, Fault>;
 pub type CompareCall = fn(Order, &[u8], &[u8], &mut [Difference]) -> Compared;
+pub type SealCall = fn(&mut [u8; BLOCK]);
 
 pub struct Program {
     pub name: &'static str,
     pub cut: CutCall,
     pub join: JoinCall,
-    /// The second program's best loops read no letter by itself.
+    /// The second program's best loops read no letter and seal no block by itself.
     pub read: Option<ReadCall>,
+    pub seal: Option<SealCall>,
     /// The library's pick is raced beside its own joins.
     pub pick: Option<PickCall>,
     /// The library alone is raced beside memcmp.
@@ -34,14 +37,13 @@ pub struct Program {
 }
 
 pub fn programs() -> Vec<Program> {
-    // elsewhere the module's cs_read hands its result over in x86-64's way, and must not be called
-    let read = cfg!(target_arch = "x86_64").then_some(plain::read as ReadCall);
     let mut programs = vec![
         Program {
             name: LIBRARY,
             cut: plain::cut,
             join: plain::join,
-            read,
+            read: Some(plain::read),
+            seal: Some(plain::seal),
             pick: Some(plain::pick),
             compare: Some(plain::compare),
         },
@@ -50,6 +52,7 @@ pub fn programs() -> Vec<Program> {
             cut: fast::cut,
             join: fast::join,
             read: None,
+            seal: None,
             pick: None,
             compare: None,
         },

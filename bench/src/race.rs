@@ -13,8 +13,8 @@ const SLICE: f64 = 0.004;
 pub trait Side {
     fn name(&self) -> &'static str;
 
-    /// The bytes worked on: of a secret, of the letters where these are read, of one tray where two are
-    /// compared.
+    /// The bytes worked on: of a secret, of the letters where these are read, of the block where one is
+    /// sealed, of one tray where two are compared.
     fn bytes(&self) -> usize;
 
     /// Before a slice, off the clock: spoils what the last one left.
@@ -22,6 +22,11 @@ pub trait Side {
 
     /// The work, on the clock.
     fn work(&mut self);
+
+    /// How many pieces of work one call of `work` does. The time is that of one.
+    fn pieces(&self) -> usize {
+        1
+    }
 
     /// After a slice, off the clock: whether the work was done, and right.
     fn right(&mut self) -> bool;
@@ -115,7 +120,7 @@ fn deeper(steps: usize, work: &mut dyn FnMut() -> f64) -> f64 {
     time
 }
 
-/// The best time in one slice.
+/// The best time of one piece of work in one slice.
 fn slice(side: &mut dyn Side) -> f64 {
     side.prepare();
     let mut best = f64::MAX;
@@ -123,7 +128,7 @@ fn slice(side: &mut dyn Side) -> f64 {
     while begun.elapsed().as_secs_f64() < SLICE {
         best = best.min(seconds(|| side.work()));
     }
-    best
+    best / side.pieces() as f64
 }
 
 pub fn seconds(work: impl FnOnce()) -> f64 {

@@ -9,6 +9,7 @@ use crate::comparing::{by_memcmp, compares, Trays};
 use crate::picking::{picks, Groups};
 use crate::programs::LIBRARY_V3;
 use crate::race::Race;
+use crate::sealing::seals;
 use crate::sides::{cuts, joins, reads};
 use crate::{gfshare, ssss};
 
@@ -19,8 +20,8 @@ pub struct Races {
     pub too_many: Race,
     pub one_group: Race,
     pub eight_groups: Race,
-    /// Where a program can be called to read.
-    pub reading: Option<Race>,
+    pub reading: Race,
+    pub sealing: Race,
     pub equal: Race,
     pub spread: Race,
     pub one_slot: Race,
@@ -39,7 +40,6 @@ impl Races {
         cuts.extend([gfshare::split(&good), gfshare::split_and_draw(&good), ssss::split(&good)]);
         let mut good_joins = joins(&good);
         good_joins.extend([gfshare::combine(&good), ssss::combine(&good)]);
-        let reads = reads(&good);
         let (one_group, eight_groups) = (Groups::one(&good), Groups::eight(random));
         assert_eq!(one_group.answers(), (vec![0], picked(STAMP)));
         assert_eq!(eight_groups.answers(), (vec![8, 8, 8, 8, 8, 8, 8, 0], picked(1)));
@@ -54,8 +54,8 @@ impl Races {
                 "pick, t=1, f=0, n=16, eight groups, the last joins",
                 picks(&eight_groups),
             ),
-            reading: (!reads.is_empty())
-                .then(|| Race::run("reading 16 letters, t=3, f=3, n=16", reads)),
+            reading: Race::run("reading 16 letters, t=3, f=3, n=16", reads(&good)),
+            sealing: Race::run("sealing one block", seals(&good)),
             equal,
             spread,
             one_slot,
@@ -70,8 +70,9 @@ impl Races {
     pub fn all(&self) -> impl Iterator<Item = &Race> {
         let joined = [&self.good, &self.liars, &self.too_many];
         let picked = [&self.one_group, &self.eight_groups];
+        let (read, sealed) = (&self.reading, &self.sealing);
         let compared = [&self.equal, &self.spread, &self.one_slot];
-        [&self.cut].into_iter().chain(joined).chain(picked).chain(&self.reading).chain(compared)
+        [&self.cut].into_iter().chain(joined).chain(picked).chain([read, sealed]).chain(compared)
     }
 }
 

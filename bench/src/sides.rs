@@ -98,7 +98,6 @@ struct Read<'a> {
     heads: Vec<Result<Head, Fault>>,
 }
 
-/// None where no program can be called to read.
 pub fn reads(case: &Case) -> Sides<'_> {
     let tray = &case.tray;
     let plainly = |slot| Letter::read(slot).map(|letter| letter.head);

@@ -22,10 +22,11 @@ pub fn programs() -> Vec<Program> {
             cut: v3::cut,
             join: v3::join,
             read: Some(v3::read),
+            seal: Some(v3::seal),
             pick: Some(v3::pick),
             compare: Some(v3::compare),
         },
-        Program { name: SECOND_V3, cut, join, read: None, pick: None, compare: None },
+        Program { name: SECOND_V3, cut, join, read: None, seal: None, pick: None, compare: None },
     ]
 }
 
