@@ -1,6 +1,8 @@
 pub mod AtMostLaws
 pub mod Check
 pub mod CheckLaws
+pub mod ExchangedLaws
+pub mod TakenLaws
 pub mod Weights
 pub mod WordLaws
 pub mod WordParts

@@ -2,6 +2,8 @@
 -- Assumes nothing.
 use Prim.Native.Nat.{ℕ, _+_, _*_, _/_, _%_}
 use mathlib.Core.List.{List, [], _∷_}
+use lib.ListN.{length, getD}
+use Rattle.lists.specs.Listed.{listed}
 
 -- "words of two bytes, high byte first"
 unfoldable pub bytesOf : List ℕ → List ℕ
@@ -17,3 +19,7 @@ wordsOf (high ∷ low ∷ bs) = (high * 256 + low) ∷ wordsOf bs
 -- a word with its bytes exchanged
 abbrev pub exchanged : ℕ → ℕ
 exchanged w = w % 256 * 256 + w / 256
+
+-- every word of a row with its bytes exchanged
+abbrev pub exchangedAll : List ℕ → List ℕ
+exchangedAll ws = listed (λ k. exchanged (getD ws k 0)) (length ws)

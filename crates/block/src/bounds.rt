@@ -2,8 +2,9 @@
 ghost use mathlib.Core.Path.{_≡_};
 ghost use Prim.Native.Nat.{_-_, _*_, _≤_, max};
 ghost use lib.ListN.{length, take, drop};
-ghost use Rattle.block.specs.Words.{wordsOf};
+ghost use Rattle.block.specs.Words.{wordsOf, exchangedAll};
 ghost use Rattle.block.specs.Check.{allAtMost};
+use crate::words::exchanged;
 use crate::words::word_at;
 
 fn larger(a: u16, b: u16) -> u16
@@ -20,6 +21,19 @@ pub fn within(words: &[u16], top: u16) -> bool
     let mut i = 0;
     while i < words.len() {
         largest = larger(largest, words[i]);
+        i += 1;
+    }
+    largest <= top
+}
+
+// Whether each word of a row, its bytes exchanged back, is at most `top`.
+pub(crate) fn exchanged_within(row: &[u16], top: u16) -> bool
+    ensures { λ r. ⌜ r ≡ allAtMost top (exchangedAll (now (row .entry))) ⌝ }
+{
+    let mut largest: u16 = 0;
+    let mut i = 0;
+    while i < row.len() {
+        largest = larger(largest, exchanged(row[i]));
         i += 1;
     }
     largest <= top

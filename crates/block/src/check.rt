@@ -1,13 +1,16 @@
-// The check of a block: its two sums, a block sealed with them, and what is wrong with one. Its words are taken once, and gone through as words.
+// The check of a block: its two sums, a block sealed with them, and what is wrong with one. A block's words are taken once, with their
+// bytes exchanged, which is how most machines hold them. 256 is minus one modulo 257, so an exchanged word is minus the word, and the sums need no byte moved.
 ghost use mathlib.Core.Path.{_≡_};
-ghost use Prim.Native.Nat.{_%_};
+ghost use Prim.Native.Nat.{_*_, _%_};
 ghost use lib.ListN.{length, take};
-ghost use Rattle.block.specs.Words.{bytesOf, wordsOf};
+ghost use Rattle.block.specs.Words.{bytesOf, wordsOf, exchangedAll};
 ghost use Rattle.block.specs.Check.{plainCheck, weightedCheck, sealed, checked, blockNumber};
-use crate::bounds::within;
-use crate::weights::put_weights;
+ghost use Rattle.block.specs.Weights.{weights};
+use crate::bounds::exchanged_within;
+use crate::weights::WEIGHTS;
+use crate::words::exchanged;
 use crate::words::put_words;
-use crate::words::take_words;
+use crate::words::take_exchanged;
 
 // The two check words that 254 words should have.
 struct CheckWords {
@@ -21,31 +24,30 @@ fn wide(w: u16) -> u32
     w as u32
 }
 
-fn remainder(sum: u32) -> u16
-    ensures { λ r. ⌜ r ≡ sum % 257 ⌝ }
+// Minus a sum, modulo 257.
+fn minus(sum: u32) -> u16
+    ensures { λ r. ⌜ r ≡ 256 * (sum % 257) % 257 ⌝ }
 {
-    (sum % 257) as u16
+    (256 * (sum % 257) % 257) as u16
 }
 
-// The sums stay below 2^32 for any words: 254 * 65535 * 256.
-fn sums(words: &[u16]) -> CheckWords
-    requires { ⌜ length (now words) ≡ 256 ⌝ }
-    ensures { λ r. ⌜ (r .plain ≡ plainCheck (now (words .entry))) × (r .weighted ≡ weightedCheck (now (words .entry))) ⌝ }
+// The check words that a row of exchanged words should have. The sums stay below 2^32 for any words: 254 * 65535 * 256.
+fn sums(row: &[u16], table: &[u16]) -> CheckWords
+    requires { ⌜ (length (now row) ≡ 256) × (now table ≡ weights) ⌝ }
+    ensures { λ r. ⌜ (r .plain ≡ plainCheck (exchangedAll (now (row .entry)))) × (r .weighted ≡ weightedCheck (exchangedAll (now (row .entry)))) ⌝ }
 {
-    let mut weights = [0u16; 254];
-    put_weights(&mut weights);
     let mut plain: u32 = 0;
     let mut weighted: u32 = 0;
     let mut i = 0;
     while i < 254 {
-        let w = wide(words[i]);
+        let w = wide(row[i]);
         plain += w;
-        weighted += w * wide(weights[i]);
+        weighted += w * wide(table[i]);
         i += 1;
     }
     CheckWords {
-        plain: remainder(plain),
-        weighted: remainder(weighted),
+        plain: minus(plain),
+        weighted: minus(weighted),
     }
 }
 
@@ -54,30 +56,35 @@ pub fn seal(block: &mut [u8])
     requires { ⌜ length (now block) ≡ 512 ⌝ }
     ensures { λ _. ⌜ now (block .exit) ≡ bytesOf (sealed (take 254 (wordsOf (now (block .entry))))) ⌝ }
 {
-    let mut words = [0u16; 256];
-    take_words(block, 0, &mut words);
-    let s = sums(&words);
+    let mut row = [0u16; 256];
+    take_exchanged(block, 0, &mut row);
+    let weights = WEIGHTS;
+    let s = sums(&row, &weights);
     let last = [s.plain, s.weighted];
     put_words(block, 254, &last);
 }
 
-fn agrees(words: &[u16]) -> bool
-    requires { ⌜ length (now words) ≡ 256 ⌝ }
-    ensures { λ r. ⌜ r ≡ checked (now (words .entry)) ⌝ }
+// Whether a row of exchanged words has the check words that it should have.
+fn agrees(row: &[u16]) -> bool
+    requires { ⌜ length (now row) ≡ 256 ⌝ }
+    ensures { λ r. ⌜ r ≡ checked (exchangedAll (now (row .entry))) ⌝ }
 {
-    let s = sums(words);
-    words[254] == s.plain && words[255] == s.weighted
+    let weights = WEIGHTS;
+    let s = sums(row, &weights);
+    exchanged(row[254]) == s.plain && exchanged(row[255]) == s.weighted
 }
 
-// What is wrong with a block, whatever its words mean: 9, 10, or 0 where nothing is.
+// What is wrong with a block, whatever its words mean: 9, 10, or 0 where nothing is. The check and the bound are both computed before either is judged, so
+// that they can be worked on together.
 pub fn number(block: &[u8]) -> u32
     requires { ⌜ length (now block) ≡ 512 ⌝ }
     ensures { λ r. ⌜ r ≡ blockNumber (wordsOf (now (block .entry))) ⌝ }
 {
-    let mut words = [0u16; 256];
-    take_words(block, 0, &mut words);
-    if within(&words, 256) {
-        if agrees(&words) { 0 } else { 10 }
+    let mut row = [0u16; 256];
+    take_exchanged(block, 0, &mut row);
+    let right = agrees(&row);
+    if exchanged_within(&row, 256) {
+        if right { 0 } else { 10 }
     } else {
         9
     }

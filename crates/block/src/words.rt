@@ -5,7 +5,7 @@ ghost use lib.Dec.{eqb};
 ghost use lib.ListN.{length, getD, take, drop};
 ghost use Rattle.lists.specs.Listed.{listed};
 ghost use Rattle.lists.specs.Patched.{patched};
-ghost use Rattle.block.specs.Words.{bytesOf, wordsOf, exchanged};
+ghost use Rattle.block.specs.Words.{bytesOf, wordsOf, exchanged, exchangedAll};
 
 fn pair(high: u8, low: u8) -> u16
     ensures { λ r. ⌜ r ≡ high * 256 + low ⌝ }
@@ -70,7 +70,8 @@ pub fn same_word(a: &[u8], b: &[u8], i: usize) -> bool
     exchanged_at(a, i) == exchanged_at(b, i)
 }
 
-fn take_exchanged(bytes: &[u8], from: usize, row: &mut [u16])
+// Fills a row with the words from word `from` on, each with its bytes exchanged.
+pub(crate) fn take_exchanged(bytes: &[u8], from: usize, row: &mut [u16])
     requires { ⌜ 2 * from + 2 * length (now row) ≤ length (now bytes) ⌝ }
     ensures { λ _. ⌜ now (row .exit) ≡ listed (λ k. exchanged (getD (wordsOf (now (bytes .entry))) (from + k) 0)) (length (now (row .entry))) ⌝ }
 {
@@ -81,7 +82,8 @@ fn take_exchanged(bytes: &[u8], from: usize, row: &mut [u16])
     }
 }
 
-fn exchanged(w: u16) -> u16
+// A word with its bytes exchanged.
+pub(crate) fn exchanged(w: u16) -> u16
     ensures { λ r. ⌜ r ≡ exchanged w ⌝ }
 {
     w % 256 * 256 + w / 256
@@ -89,7 +91,7 @@ fn exchanged(w: u16) -> u16
 
 // Exchanges the bytes of each word.
 fn exchange(row: &mut [u16])
-    ensures { λ _. ⌜ now (row .exit) ≡ listed (λ k. exchanged (getD (now (row .entry)) k 0)) (length (now (row .entry))) ⌝ }
+    ensures { λ _. ⌜ now (row .exit) ≡ exchangedAll (now (row .entry)) ⌝ }
 {
     let mut i = 0;
     while i < row.len() {

@@ -11,9 +11,11 @@ use Rattle.lists.specs.Below.{Below, below-take}
 use Rattle.lists.specs.Patched.{patched}
 use Rattle.block.specs.Check.{plainCheck, weightedCheck, sealed}
 use Rattle.block.specs.CheckLaws.{checks-take}
+use Rattle.block.specs.TakenLaws.{taken-block}
+use Rattle.block.specs.Weights.{weights}
 use Rattle.block.specs.WordLaws.{bytes-words}
-use Rattle.block.specs.WordParts.{length-bytes, words-all, words-take, bytes-append}
-use Rattle.block.specs.Words.{bytesOf, wordsOf}
+use Rattle.block.specs.WordParts.{length-bytes, words-take, bytes-append}
+use Rattle.block.specs.Words.{bytesOf, wordsOf, exchangedAll}
 use Rattle.block.proofs.check.seal.Statement.{statement}
 use Rattle.block.proofs.check.seal.Tie as tie
 
@@ -30,16 +32,20 @@ sealed-bytes bytes plain weighted size below p w =
     rw (checks-take words .0, checks-take words .1, ← p, ← w, bytes-append (take 254 words) last, ← words-take 254 bytes, front)
     (rw (drop-of-length-le bytes end, append-nil))
 
-slice-aggregate-take-words : tie.Need-slice-aggregate-take-words
-slice-aggregate-take-words c = search needs
+slice-aggregate-take-exchanged : tie.Need-slice-aggregate-take-exchanged
+slice-aggregate-take-exchanged c = search needs
 
-take-words-requires : tie.Need-take-words-requires
-take-words-requires c κs = search needs
+take-exchanged-requires : tie.Need-take-exchanged-requires
+take-exchanged-requires c κs = search needs
 
 slice-aggregate-sums : tie.Need-slice-aggregate-sums
 slice-aggregate-sums c = search needs
 
+slice-aggregate-sums-2 : tie.Need-slice-aggregate-sums-2
+slice-aggregate-sums-2 c = search needs
+
 sums-requires : tie.Need-sums-requires
+unfolding weights
 sums-requires c κs = search needs
 
 slice-aggregate-put-words : tie.Need-slice-aggregate-put-words
@@ -54,22 +60,25 @@ same-length c = search needs
 returns : tie.Need-returns
 returns c =
     let summed = c .before .before .before .before .before in
-    let taken = summed .before .before .before in
-    let start = taken .before .before .before in
-    let bytes = start .before .args .block .now in
-    let below : Below 256 bytes = λ i h. start .slice-known .given i .fits in
-    let words : taken .take-words .last .1 .1 .0 ≡ wordsOf bytes = taken .take-words .ensures ∙ words-all bytes (start .before .pre) in
+    let taken = summed .before .before .before .before in
+    let known = taken .before .before .before in
+    let start = known .before in
+    let bytes = start .args .block .now in
+    let row = taken .take-exchanged .last .1 .1 .0 in
+    let below : Below 256 bytes = λ i h. known .slice-known .given i .fits in
+    let words : exchangedAll row ≡ wordsOf bytes = taken-block bytes below (start .pre) (taken .take-exchanged .ensures) in
     let sums = rw words at (summed .sums .ensures) in
     c .before .before .put-words .ensures
-    ∙ sealed-bytes bytes (summed .sums .result .plain) (summed .sums .result .weighted) (start .before .pre) below (sums .0) (sums .1)
+    ∙ sealed-bytes bytes (summed .sums .result .plain) (summed .sums .result .weighted) (start .pre) below (sums .0) (sums .1)
 
 pub seal-spec : {M : Type 1} → statement M
 seal-spec =
     tie.close
     (tie.spec
-    slice-aggregate-take-words
-    take-words-requires
+    slice-aggregate-take-exchanged
+    take-exchanged-requires
     slice-aggregate-sums
+    slice-aggregate-sums-2
     sums-requires
     slice-aggregate-put-words
     put-words-requires
