@@ -8,6 +8,7 @@ pub mod KeptLaws
 pub mod NarrowedLaws
 pub mod PastLaws
 pub mod ReachesLaws
+pub mod ReachingLaws
 pub mod Recovers
 pub mod Rows
 pub mod ScanLaws

@@ -1,7 +1,7 @@
 -- At least one polynomial goes through given points: the one with the values y at the points xs, built a point at a time.
 -- Assumes nothing.
 use Prim.Native.Nat.{ℕ, suc, _<_}
-use mathlib.Core.Path.{_≡_, refl, ap, _∙_}
+use mathlib.Core.Path.{_≡_, refl, ap, ap₂, _∙_}
 use mathlib.Core.Logic.{inl, inr}
 use mathlib.Core.List.{List, [], _∷_}
 use lib.ListN.{length}
@@ -17,9 +17,19 @@ use Rattle.algebra.specs.Ring.{zero-mul, sub-add, mul-back, sub-not-zero
 abbrev slope : Ops → ℕ → (ℕ → ℕ) → ℕ → ℕ
 slope O a y x = O .mul (O .sub (y x) (y a)) (O .inv (O .sub x a))
 
+-- the polynomial through the values y at the points xs
 unfoldable pub interpolate : Ops → List ℕ → (ℕ → ℕ) → List ℕ
 interpolate O [] y = []
 interpolate O (a ∷ xs) y = grow O a (y a) (interpolate O xs (slope O a y))
+
+-- it is made of the values at its points alone
+pub interpolate-same : (O : Ops) (xs : List ℕ) (y y′ : ℕ → ℕ) → ((x : ℕ) → In x xs → y x ≡ y′ x) → interpolate O xs y ≡ interpolate O xs y′
+unfolding interpolate
+interpolate-same O [] y y′ h = refl
+interpolate-same O (a ∷ xs) y y′ h =
+    ap₂ (grow O a) (h a (inl refl))
+    (interpolate-same O xs (slope O a y) (slope O a y′)
+    (λ x m. ap₂ (λ (v w : ℕ). O .mul (O .sub v w) (O .inv (O .sub x a))) (h x (inr m)) (h a (inl refl))))
 
 module _ {O : Ops} (F : IsField O) where
   infixl 60 _⊕_ _⊖_

@@ -83,6 +83,23 @@ unfolding chosen
 chosen-none f [] h = refl
 chosen-none f (x ∷ xs) h = rw (h x (inl refl), chosen-none f xs (λ y m. h y (inr m)))
 
+-- tests that agree on the list choose the same
+pub chosen-same : (f g : ℕ → Bool) (xs : List ℕ) → ((x : ℕ) → In x xs → f x ≡ g x) → chosen f xs ≡ chosen g xs
+unfolding chosen
+chosen-same f g [] h = refl
+chosen-same f g (x ∷ xs) h = rw (h x (inl refl), chosen-same f g xs (λ y m. h y (inr m)))
+
+-- to choose among the chosen is to choose those that pass both tests
+pub chosen-chosen : (f g : ℕ → Bool) (xs : List ℕ) → chosen g (chosen f xs) ≡ chosen (both f g) xs
+unfolding chosen
+chosen-chosen f g [] = refl
+chosen-chosen f g (x ∷ xs) = step (f x) (chosen-chosen f g xs)
+  where
+    step : (b : Bool) → chosen g (chosen f xs) ≡ chosen (both f g) xs
+        → chosen g (cond b (x ∷ chosen f xs) (chosen f xs)) ≡ cond (b && g x) (x ∷ chosen (both f g) xs) (chosen (both f g) xs)
+    step true h = rw h
+    step false h = h
+
 -- to count among the chosen is to count those that pass both tests
 pub count-chosen : (f g : ℕ → Bool) (xs : List ℕ) → count g (chosen f xs) ≡ count (both f g) xs
 unfolding chosen count

@@ -1,7 +1,7 @@
 -- How many numbers of a list pass a test. A set of keepers is such a test, counted over a list of keepers.
 -- Assumes nothing.
 use Prim.Native.Nat.{ℕ, _+_, _≤_, zero-le}
-use mathlib.Core.Path.{_≡_, refl}
+use mathlib.Core.Path.{_≡_, refl, ap}
 use mathlib.Core.Bool.{Bool, true, false, not, _&&_}
 use mathlib.Core.Logic.{inl, inr}
 use mathlib.Core.List.{List, [], _∷_, _++_}
@@ -64,6 +64,12 @@ pub count-same : (f g : ℕ → Bool) (xs : List ℕ) → ((x : ℕ) → In x xs
 unfolding count
 count-same f g [] h = refl
 count-same f g (x ∷ xs) h = rw (h x (inl refl), count-same f g xs (λ y m. h y (inr m)))
+
+-- where all pass, the count is the length
+pub count-all : (f : ℕ → Bool) (xs : List ℕ) → ((x : ℕ) → In x xs → f x ≡ true) → count f xs ≡ length xs
+unfolding count
+count-all f [] h = refl
+count-all f (x ∷ xs) h = omega (arith, ap bit (h x (inl refl)), count-all f xs (λ y m. h y (inr m)))
 
 pub count-append : (f : ℕ → Bool) (xs ys : List ℕ) → count f (xs ++ ys) ≡ count f xs + count f ys
 unfolding count

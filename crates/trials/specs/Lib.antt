@@ -1,0 +1,9 @@
+pub mod Binomials
+pub mod Dictionary
+pub mod Each
+pub mod Left
+pub mod Lowest
+pub mod Sets
+pub mod SetsLaws
+pub mod Trials
+pub mod Within
