@@ -127,14 +127,25 @@ static answer pick(char **word) {
     return (answer){.number = r.number};
 }
 
-static void tell_agreement(order o, cs_join_result r) {
-    say("usable %u need %u\n", r.usable, r.need);
-    if (r.set == 0) return;
+static void tell_matching(order o, uint32_t set) {
     say("keepers that match:");
     for (uint32_t x = 1; x <= o.n; x++) {
-        if (r.set >> (x - 1) & 1) say(" %u", x);
+        if (set >> (x - 1) & 1) say(" %u", x);
     }
     say("\n");
+}
+
+/* They are counted up to a set that enough keepers match; where there is none, all sets are. */
+static void tell_trials(order o, cs_join_result r) {
+    say("trials %u: sets of %u keepers, ", r.trials, o.t + 1);
+    if (r.set > 0) say("up to the first that at least %u letters match\n", r.need);
+    else say("all there are\n");
+}
+
+static void tell_agreement(order o, cs_join_result r) {
+    say("usable %u need %u\n", r.usable, r.need);
+    if (r.set > 0) tell_matching(o, r.set);
+    if (r.trials > 0) tell_trials(o, r);
 }
 
 /* T F N STAMP LENGTH TRAY SECRET */
@@ -214,8 +225,10 @@ static void help(void) {
         "folders of them, named 1 .. N. The status is the answer's number; %d is trouble with a file or\n"
         "a word. pick names the newest stamp and length that join, and with 7 or 8 the newest that enough\n"
         "letters have, if none joins. Something newer may have been cut whose letters are missing or do not\n"
-        "match. compare ends with 0 only where no word differs, and with %d where one does. The words that\n"
-        "it prints are of letters: keep what it says as you keep the letters.\n",
+        "match. join's trials say how many sets of T+1 keepers, in dictionary order, a hunt would try: at\n"
+        "most 12870. They do not say how long the join took: they are computed, and no set is tried for them.\n"
+        "compare ends with 0 only where no word differs, and with %d where one does. The words that it prints\n"
+        "are of letters: keep what it says as you keep the letters.\n",
         TROUBLE, DIFFERENT);
 }
 

@@ -55,10 +55,10 @@ extern "C" {
  * name has both, so that a program runs with the calls that it was built for or does not start.
  */
 #define CSALGODES_VERSION_MAJOR 0
-#define CSALGODES_VERSION_MINOR 3
+#define CSALGODES_VERSION_MINOR 4
 #define CSALGODES_VERSION_PATCH 0
 
-/* As one number, to be compared: 0.3.0 is 300, and 1.2.3 would be 10203. */
+/* As one number, to be compared: 0.4.0 is 400, and 1.2.3 would be 10203. */
 #define CSALGODES_VERSION \
     (CSALGODES_VERSION_MAJOR * 10000 + CSALGODES_VERSION_MINOR * 100 + CSALGODES_VERSION_PATCH)
 
@@ -142,6 +142,7 @@ typedef struct {
     uint32_t usable; /* of 0, 6, 7, 8: m, the letters that can be used; else 0 */
     uint32_t need;   /* of 0, 6, 7, 8: how many of them must match, the larger of m-f and t+f+1; else 0 */
     uint32_t set;    /* of 0 and 8: the keepers that match, keeper x being bit x-1; else 0 */
+    uint32_t trials; /* of 0, 7, 8: how many sets of t+1 letters a hunt would try, 1..12870; else 0 */
 } cs_join_result;
 
 /*
@@ -149,6 +150,13 @@ typedef struct {
  * their own slot's keeper number. Say that the tray was cut, and then at most f usable letters came to
  * differ from the cut, and any others to be unusable. Then the secret given is never a wrong one. The right
  * one is given if t+2f+1 letters are usable, or if t+f+1 usable ones are as they were cut.
+ *
+ * The trials say how long a hunt would be that takes one set of t+1 usable keepers after the other, in
+ * dictionary order of rising keeper numbers: for t=2 {1,2,3}, {1,2,4} and so on. A set's polynomials are those of
+ * degree at most t through its letters, one for each byte. For 0 and 8 the sets are counted up to and
+ * including the first whose polynomials match at least need letters. For 7 all of them are, m choose t+1:
+ * there are never more, and that is at most 12,870. The count does not say how long the join took: it is
+ * computed, and no set is tried for it.
  *
  * Lent: the tray, n*2048 bytes; room for exactly length bytes.
  * Writes: the secret to all of the room where the number is 0, else nothing.

@@ -1,7 +1,7 @@
 //! The proved library's calls, with the second program's types, so that both are called alike: as it is
 //! compiled for any processor, and on x86-64 also as it is compiled for x86-64-v3.
 
-use std::mem::MaybeUninit;
+use std::mem::{size_of, MaybeUninit};
 
 use second::block::BLOCK;
 use second::join::Joined;
@@ -15,6 +15,7 @@ struct JoinResult {
     usable: u32,
     need: u32,
     set: u32,
+    trials: u32,
 }
 
 #[repr(C)]
@@ -64,8 +65,8 @@ struct Lent {
 
 impl From<JoinResult> for Joined {
     fn from(result: JoinResult) -> Joined {
-        let JoinResult { number, usable, need, set } = result;
-        Joined { number, usable, need, set }
+        let JoinResult { number, usable, need, set, trials } = result;
+        Joined { number, usable, need, set, trials }
     }
 }
 
@@ -84,6 +85,27 @@ impl From<ReadResult> for Result<Head, Fault> {
             _ => Err(Fault { number, place }),
         }
     }
+}
+
+/// The longest result that is returned alike on all machines.
+const LONGEST_RETURNED: usize = 16;
+const _: () = {
+    assert!(size_of::<PickResult>() <= LONGEST_RETURNED);
+    assert!(size_of::<Compared>() <= LONGEST_RETURNED);
+    assert!(size_of::<JoinResult>() > LONGEST_RETURNED);
+    assert!(size_of::<ReadResult>() > LONGEST_RETURNED);
+};
+
+/// A longer result. Its place is handed over first, and comes back. On x86-64 that is C's own way with so long
+/// a result; elsewhere it is the module's alone.
+///
+/// # Safety
+///
+/// The call must write all of the result.
+unsafe fn placed<T>(call: impl FnOnce(*mut T) -> *mut T) -> T {
+    let mut result = MaybeUninit::uninit();
+    call(result.as_mut_ptr());
+    result.assume_init()
 }
 
 macro_rules! calls {
@@ -125,6 +147,7 @@ macro_rules! calls {
 
                 #[link_name = $join]
                 fn cs_join(
+                    result: *mut JoinResult,
                     t: u32,
                     f: u32,
                     n: u32,
@@ -134,10 +157,8 @@ macro_rules! calls {
                     tray_length: usize,
                     room: *mut u8,
                     room_length: usize,
-                ) -> JoinResult;
+                ) -> *mut JoinResult;
 
-                /// The place of its result is handed over first, and comes back. On x86-64 that is C's
-                /// own way with so long a result; elsewhere it is the module's alone.
                 #[link_name = $read]
                 fn cs_read(
                     result: *mut ReadResult,
@@ -204,19 +225,29 @@ macro_rules! calls {
             ) -> Joined {
                 let (tray, tray_length) = (tray.as_ptr(), tray.len());
                 let (room, room_length) = (room.as_mut_ptr(), room.len());
-                // SAFETY: as in the cut.
-                unsafe { cs_join(t, f, n, stamp, length, tray, tray_length, room, room_length) }
-                    .into()
+                // SAFETY: as in the cut, and the whole result is written.
+                unsafe {
+                    placed(|result| {
+                        cs_join(
+                            result,
+                            t,
+                            f,
+                            n,
+                            stamp,
+                            length,
+                            tray,
+                            tray_length,
+                            room,
+                            room_length,
+                        )
+                    })
+                }
+                .into()
             }
 
             pub fn read(slot: &[u8]) -> Result<Head, Fault> {
-                let mut result = MaybeUninit::uninit();
-                // SAFETY: as in the cut, and every word of the result is written.
-                unsafe {
-                    cs_read(result.as_mut_ptr(), slot.as_ptr(), slot.len());
-                    result.assume_init()
-                }
-                .into()
+                // SAFETY: as in the cut, and the whole result is written.
+                unsafe { placed(|result| cs_read(result, slot.as_ptr(), slot.len())) }.into()
             }
 
             pub fn compare(

@@ -34,7 +34,8 @@ impl Races {
         let good = Case::good(order, random);
         let liars = Case::three_liars(order, random);
         let too_many = Case::three_liars(Order::new(7, 2, 16), random);
-        assert_eq!([&good, &liars, &too_many].map(|case| case.joined.number), [0, 0, 7]);
+        let found = [&good, &liars, &too_many].map(|case| (case.joined.number, case.joined.trials));
+        assert_eq!(found, [(0, 1), (0, 1106), (7, 12870)]);
 
         let mut cuts = cuts(&good);
         cuts.extend([gfshare::split(&good), gfshare::split_and_draw(&good), ssss::split(&good)]);

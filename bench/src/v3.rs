@@ -50,7 +50,7 @@ fn cut(order: Order, stamp: u32, secret: &[u8], random: &[u16], tray: &mut [u8])
 }
 
 fn join(order: Order, stamp: u32, length: u32, tray: &[u8], room: &mut [u8]) -> Joined {
-    let second_v3::join::Joined { number, usable, need, set } =
+    let second_v3::join::Joined { number, usable, need, set, trials } =
         fast::join(same(order), stamp, length, tray, room);
-    Joined { number, usable, need, set }
+    Joined { number, usable, need, set, trials }
 }

@@ -81,7 +81,8 @@ static uint32_t join_and_say(const uint8_t *tray, uint8_t *room) {
     cs_pick_result picked;
     if (!pick_and_say(tray, &picked)) return 0;
     cs_join_result found = cs_join(T, F, N, picked.stamp, picked.length, tray, TRAY, room, picked.length);
-    printf("join: number %u, usable %u, need %u\n", found.number, found.usable, found.need);
+    printf("join: number %u, usable %u, need %u, trials %u\n", found.number, found.usable, found.need,
+           found.trials);
     if (found.number != 0) return 0;
     printf("agree:");
     for (int keeper = 1; keeper <= N; keeper++) {

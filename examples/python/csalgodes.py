@@ -22,14 +22,14 @@ class Picked(Structure):
 class Found(Structure):
     """What a join found."""
 
-    _fields_ = [(name, c_uint32) for name in ("number", "usable", "need", "set")]
+    _fields_ = [(name, c_uint32) for name in ("number", "usable", "need", "set", "trials")]
 
     def keepers(self):
         """The keepers that match."""
         return [keeper for keeper in range(1, 17) if self.set >> (keeper - 1) & 1]
 
     def __str__(self):
-        return f"number {self.number}, usable {self.usable}, need {self.need}"
+        return f"number {self.number}, usable {self.usable}, need {self.need}, trials {self.trials}"
 
 
 class _Compared(Structure):
@@ -56,7 +56,7 @@ _words = [POINTER(c_uint16), c_size_t]
 _places = [POINTER(_Place), c_size_t]
 
 # by the name that says which calls it has: one with other calls has another
-_library = CDLL("libcsalgodes.so.0.3")
+_library = CDLL("libcsalgodes.so.0.4")
 _library.cs_cut.argtypes = [c_uint32] * 4 + _read + _words + _written
 _library.cs_cut.restype = c_uint32
 _library.cs_pick.argtypes = [c_uint32] * 3 + _read

@@ -35,6 +35,7 @@ pub struct Found {
     pub usable: u32,
     pub need: u32,
     pub set: u32,
+    pub trials: u32,
 }
 
 impl Found {
@@ -46,7 +47,8 @@ impl Found {
 
 impl fmt::Display for Found {
     fn fmt(&self, to: &mut fmt::Formatter) -> fmt::Result {
-        write!(to, "number {}, usable {}, need {}", self.number, self.usable, self.need)
+        let Found { number, usable, need, trials, .. } = self;
+        write!(to, "number {number}, usable {usable}, need {need}, trials {trials}")
     }
 }
 

@@ -99,6 +99,26 @@ fn the_join_of_few_letters_with_few_words() {
     tally.expect(3000, &[0, 6, 7, 8]);
 }
 
+/// Liars side by side, from each keeper on. Once in two the one before them is absent.
+#[test]
+fn the_join_s_trials() {
+    let random = &Random::new(106);
+    let mut tally = Tally::default();
+    for order in Order::all() {
+        for liars in 0..=order.f + 1 {
+            for first in 1..=order.n - liars {
+                let mut tray = Tray::cut(order, 9, 4 + random.below(5), random);
+                tray.lie_apart(&(first..first + liars).collect::<Vec<_>>(), random);
+                if first > 1 && random.once_in(2) {
+                    slot(&mut tray.bytes, first - 1).fill(0);
+                }
+                tally.add(same_join(order, 9, tray.length(), &tray.bytes, tray.secret.len()));
+            }
+        }
+    }
+    tally.expect(4600, &[0, 6, 7]);
+}
+
 #[test]
 fn the_join_s_refusals() {
     let random = &Random::new(105);

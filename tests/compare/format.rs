@@ -289,10 +289,10 @@ fn letters_that_are_not_good() {
 fn joins() {
     let (page, mut both) = (page(), Both::start());
     let full = both.cut_byte(200, 100);
-    let first = "| case | 1 | 2 | 3 | 4 | 5 | 6 | number | m | need | set | secret |";
+    let first = "| case | 1 | 2 | 3 | 4 | 5 | 6 | number | m | need | set | trials | secret |";
     let rows = table(&page, first);
     let cases: Vec<&str> = rows.iter().map(|row| row[0]).collect();
-    assert_eq!(cases, ["C2", "C3", "C4", "C5", "C6", "C7", "C8"]);
+    assert_eq!(cases, ["C2", "", "C3", "C4", "C5", "C6", "C7", "C8"]);
     for row in rows {
         let mut tray = vec![0; ORDER.tray()];
         for (keeper, cell) in (1..).zip(&row[1..7]) {
@@ -301,9 +301,9 @@ fn joins() {
                 lie(slot(&mut tray, keeper), 0, word);
             }
         }
-        let [number, usable, need, set] = [7, 8, 9, 10].map(|i| number(row[i]));
-        let joined = Joined { number, usable, need, set };
-        assert_eq!(both.join(&tray), (joined, optional(row[11])), "{}", row[0]);
+        let [number, usable, need, set, trials] = [7, 8, 9, 10, 11].map(|i| number(row[i]));
+        let joined = Joined { number, usable, need, set, trials };
+        assert_eq!(both.join(&tray), (joined, optional(row[12])), "{row:?}");
     }
 }
 

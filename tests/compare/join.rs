@@ -33,6 +33,7 @@ impl Joiners {
         let answered = self.peer.join(order, stamp, length, tray, &mut left);
         assert_eq!(answered, joined, "{order:?}, stamp {stamp}, length {length}");
         assert!(left == expected, "{order:?}, stamp {stamp}, length {length}");
+        assert_eq!(answered.trials == 0, (1..=6).contains(&answered.number));
         self.tally.add(joined.number);
         (joined.number, left)
     }

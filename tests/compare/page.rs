@@ -9,6 +9,7 @@ use second::letter::{Fault, Letter};
 use second::order::{Order, SLOT};
 use second::pick::{pick, Picked};
 use second::report::report;
+use second::solve::subsets;
 
 const ORDER: Order = Order { t: 1, f: 1, n: 6 };
 const STAMP: u32 = 7;
@@ -37,8 +38,8 @@ fn join_of(words: &[(u32, u32)]) -> (Joined, u8) {
     (joined, room[0])
 }
 
-fn refused(number: u32, usable: u32, need: u32) -> (Joined, u8) {
-    (Joined { number, usable, need, set: 0 }, 99)
+fn refused(number: u32, usable: u32, need: u32, trials: u32) -> (Joined, u8) {
+    (Joined { number, usable, need, set: 0, trials }, 99)
 }
 
 #[test]
@@ -50,44 +51,51 @@ fn c1_share_words() {
 #[test]
 fn c2_one_liar_of_six() {
     let (joined, byte) = join_of(&[(1, 43), (2, 143), (3, 0), (4, 86), (5, 186), (6, 29)]);
-    assert_eq!(joined, Joined { number: 0, usable: 6, need: 5, set: 59 });
+    assert_eq!(joined, Joined { number: 0, usable: 6, need: 5, set: 59, trials: 1 });
+    assert_eq!(byte, 200);
+}
+
+#[test]
+fn c2_with_keeper_1_the_liar() {
+    let (joined, byte) = join_of(&[(1, 0), (2, 143), (3, 243), (4, 86), (5, 186), (6, 29)]);
+    assert_eq!(joined, Joined { number: 0, usable: 6, need: 5, set: 62, trials: 6 });
     assert_eq!(byte, 200);
 }
 
 #[test]
 fn c3_two_liars_of_six() {
     let words = [(1, 43), (2, 143), (3, 0), (4, 0), (5, 186), (6, 29)];
-    assert_eq!(join_of(&words), refused(7, 6, 5));
+    assert_eq!(join_of(&words), refused(7, 6, 5, 15));
 }
 
 #[test]
 fn c4_one_liar_of_four() {
     let (joined, byte) = join_of(&[(1, 43), (2, 143), (3, 0), (4, 86)]);
-    assert_eq!(joined, Joined { number: 0, usable: 4, need: 3, set: 11 });
+    assert_eq!(joined, Joined { number: 0, usable: 4, need: 3, set: 11, trials: 1 });
     assert_eq!(byte, 200);
 }
 
 #[test]
 fn c5_three_unaltered() {
     let (joined, byte) = join_of(&[(1, 43), (2, 143), (3, 243)]);
-    assert_eq!(joined, Joined { number: 0, usable: 3, need: 3, set: 7 });
+    assert_eq!(joined, Joined { number: 0, usable: 3, need: 3, set: 7, trials: 1 });
     assert_eq!(byte, 200);
 }
 
 #[test]
 fn c6_one_liar_of_three() {
-    assert_eq!(join_of(&[(1, 43), (2, 143), (3, 0)]), refused(7, 3, 3));
+    assert_eq!(join_of(&[(1, 43), (2, 143), (3, 0)]), refused(7, 3, 3, 3));
 }
 
 #[test]
 fn c7_two_letters() {
-    assert_eq!(join_of(&[(1, 43), (2, 143)]), refused(6, 2, 3));
+    assert_eq!(join_of(&[(1, 43), (2, 143)]), refused(6, 2, 3, 0));
 }
 
 #[test]
 fn c8_a_constant_of_256() {
     let (joined, byte) = join_of(&[(1, 0), (2, 1), (3, 2)]);
-    assert_eq!(joined, Joined { number: 8, usable: 3, need: 3, set: 7 });
+    assert_eq!(joined, Joined { number: 8, usable: 3, need: 3, set: 7, trials: 1 });
     assert_eq!(byte, 99);
 }
 
@@ -124,6 +132,19 @@ fn reciprocals() {
         assert_eq!(reciprocal(a), b);
     }
     assert!((1..257).all(|a| multiply(a, reciprocal(a)) == 1));
+}
+
+/// The lists that the join goes through: each rises, and each comes after the one before it.
+#[test]
+fn sets_in_dictionary_order() {
+    for (of, size) in (2..=16).flat_map(|of| (2..=8).map(move |size| (of, size))) {
+        let sets = subsets(of, size);
+        assert!(sets.iter().all(|set| set.windows(2).all(|pair| pair[0] < pair[1])));
+        assert!(sets.windows(2).all(|pair| pair[0] < pair[1]));
+        let counted = (0..1u32 << of).filter(|bits| bits.count_ones() as usize == size);
+        assert_eq!(sets.len(), counted.count(), "{size} of {of}");
+    }
+    assert_eq!(subsets(16, 8).len(), 12_870);
 }
 
 #[test]

@@ -69,6 +69,7 @@ static void answer_join(const uint32_t *number, const uint8_t *tray, size_t size
     result[1] = r.usable;
     result[2] = r.need;
     result[3] = r.set;
+    result[4] = r.trials;
 }
 
 static void answer_store(const uint32_t *number, uint8_t *held, size_t held_size,

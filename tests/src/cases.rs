@@ -79,6 +79,16 @@ impl Tray {
         lie(slot, place, sum);
     }
 
+    /// Makes these keepers lie, no two of them at the same word. So at a word where other polynomials
+    /// differ from the cut's they match t letters at most and the one that lies there, which is not
+    /// enough where need is above t+1.
+    pub fn lie_apart(&mut self, liars: &[u32], random: &Random) {
+        let places = random.sample(self.secret.len(), liars.len());
+        for (&keeper, place) in liars.iter().zip(places) {
+            self.add_to(keeper, place, random.between(1, 256));
+        }
+    }
+
     /// The same added to every keeper's word moves the constant alone: here to 256.
     pub fn move_to_256(&mut self, place: usize) {
         let more = 256 - u32::from(self.secret[place]);

@@ -29,16 +29,11 @@ pub struct Groups {
     groups: Vec<Group>,
 }
 
-/// The fewest letters whose join can be made to give 7. Through any t+1 there are polynomials.
-fn differing(order: Order) -> u32 {
-    order.fewest().max(order.t + 2)
-}
-
 /// What the join can be made to give where so many keepers have a letter.
 pub fn numbers(order: Order, size: u32) -> &'static [u32] {
     if size < order.fewest() {
         &[6]
-    } else if size < differing(order) {
+    } else if size < order.differing() {
         &[0, 6, 8]
     } else {
         &[0, 6, 7, 8]
@@ -49,7 +44,7 @@ pub fn numbers(order: Order, size: u32) -> &'static [u32] {
 /// that. What keepers are left go to one of them or to none.
 fn sizes(order: Order, count: usize, random: &Random) -> Vec<u32> {
     let room = |size| size * count as u32 <= order.n;
-    let least = if room(differing(order)) { differing(order) } else { order.fewest() };
+    let least = if room(order.differing()) { order.differing() } else { order.fewest() };
     let mut sizes = vec![least; count];
     for _ in least * count as u32..order.n {
         if let Some(size) = sizes.get_mut(random.below(count + 1)) {
@@ -153,18 +148,13 @@ impl Group {
         }
         let good = match self.number {
             6 => random.between(0, order.fewest() - 1).min(self.size),
-            7 => random.between(differing(order), self.size),
+            7 => random.between(order.differing(), self.size),
             _ => random.between(order.fewest(), self.size),
         };
-        // Need is good - f or t+f+1, so as many may lie as is the less of f and good - (t+f+1).
-        let borne = order.f.min(good.saturating_sub(order.fewest()));
+        let borne = order.borne(good);
         let liars = if self.number == 7 { borne + 1 } else { random.between(0, borne) };
         let (good, bad) = keepers.split_at(good as usize);
-        // No two lie at the same word. So at a word where other polynomials differ from the cut's they
-        // match t letters at most and the one that lies there, which is not enough.
-        for (&keeper, place) in good.iter().zip(random.sample(length, liars as usize)) {
-            cut.add_to(keeper, place, random.between(1, 256));
-        }
+        cut.lie_apart(&good[..liars as usize], random);
         bad.iter().for_each(|&keeper| spoil(&mut cut, keeper, random));
         cut.bytes
     }

@@ -11,6 +11,7 @@ pub struct Joined {
     pub usable: u32,
     pub need: u32,
     pub set: u32,
+    pub trials: u32,
 }
 
 /// The polynomials found: who matches them all, and their constants.
@@ -36,20 +37,21 @@ pub fn join(order: Order, stamp: u32, length: u32, tray: &[u8], room: &mut [u8])
     let letters = usable(order, stamp, length, tray);
     let m = letters.len() as u32;
     let need = m.saturating_sub(order.f).max(order.fewest());
-    let answer = |number, set| Joined { number, usable: m, need, set };
+    let answer = |number, set, trials| Joined { number, usable: m, need, set, trials };
     if m < order.fewest() {
-        return answer(6, 0);
+        return answer(6, 0, 0);
     }
-    let Some(Agreement { set, constants }) = agreement(order.t, need, &letters) else {
-        return answer(7, 0);
+    let (trials, found) = hunt(order.t, need, &letters);
+    let Some(Agreement { set, constants }) = found else {
+        return answer(7, 0, trials);
     };
     // 256 is a value of the field and no byte
     let secret: Result<Vec<u8>, _> = constants.into_iter().map(u8::try_from).collect();
     let Ok(secret) = secret else {
-        return answer(8, set);
+        return answer(8, set, trials);
     };
     room.copy_from_slice(&secret);
-    answer(0, set)
+    answer(0, set, trials)
 }
 
 /// The letters that can be used, in the order of their keepers.
@@ -63,16 +65,20 @@ pub fn usable(order: Order, stamp: u32, length: u32, tray: &[u8]) -> Vec<Letter>
         .collect()
 }
 
-fn agreement(t: u32, need: u32, letters: &[Letter]) -> Option<Agreement> {
+/// How many sets of t+1 letters were tried, and what was found with the last of them. The letters are in
+/// the order of their keepers, and so the sets come in dictionary order of rising keeper numbers.
+fn hunt(t: u32, need: u32, letters: &[Letter]) -> (u32, Option<Agreement>) {
+    let mut trials = 0;
     // most sets fail at the same word, so each is tried first where the last one failed
     let mut first = 0;
     for basis in subsets(letters.len(), t as usize + 1) {
+        trials += 1;
         match agreement_with(&basis, need, letters, first) {
-            Ok(agreement) => return Some(agreement),
+            Ok(agreement) => return (trials, Some(agreement)),
             Err(word) => first = word,
         }
     }
-    None
+    (trials, None)
 }
 
 /// What matches the polynomials through these letters, or a word at which it isn't enough.

@@ -29,6 +29,16 @@ impl Order {
         self.t + self.f + 1
     }
 
+    /// The fewest letters whose join can be made to give 7. Through any t+1 there are polynomials.
+    pub fn differing(self) -> u32 {
+        self.fewest().max(self.t + 2)
+    }
+
+    /// So many of the usable letters may lie. Need is m-f or t+f+1, so it is the less of f and m-(t+f+1).
+    pub fn borne(self, usable: u32) -> u32 {
+        self.f.min(usable.saturating_sub(self.fewest()))
+    }
+
     pub fn tray(self) -> usize {
         self.n as usize * SLOT
     }

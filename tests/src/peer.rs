@@ -157,8 +157,8 @@ impl Peer {
         let Reply { numbers, left } = self.call(2, &numbers, &[tray, room]);
         assert!(left[0] == tray, "the tray is only lent to be read");
         room.copy_from_slice(&left[1]);
-        let [number, usable, need, set, ..] = numbers;
-        Joined { number, usable, need, set }
+        let [number, usable, need, set, trials, ..] = numbers;
+        Joined { number, usable, need, set, trials }
     }
 
     pub fn store(&mut self, desk: Desk, held: &mut [u8], offered: &[u8]) -> Stored {

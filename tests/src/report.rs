@@ -30,7 +30,7 @@ fn report_on(order: Order, tray: &[u8]) -> String {
         let state = if is_usable(keeper) { state(&joined, keeper) } else { "absent" };
         text += &format!("keeper {keeper} {state}\n");
     }
-    let Joined { number, usable, need, set } = joined;
+    let Joined { number, usable, need, set, .. } = joined;
     text += &format!("usable {usable} need {need} agree {}\n", set.count_ones());
     text + &answer(number)
 }

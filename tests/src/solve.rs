@@ -39,7 +39,8 @@ fn take_away(rows: &mut Rows, from: usize, k: usize, columns: std::ops::RangeInc
     }
 }
 
-/// Each way to take `size` of the first `of` indices, in dictionary order.
+/// Each way to take `size` of the first `of` indices, as a rising list. The lists come in dictionary
+/// order: 0 1 2, then 0 1 3, 0 1 4, ..
 pub fn subsets(of: usize, size: usize) -> Vec<Vec<usize>> {
     fn extend(
         from: usize,

@@ -14,7 +14,7 @@ use Rattle.tray.specs.Tray.{usable, usableMany, wordOf}
 use Rattle.agree.specs.Agreement.{agreeing, needed, Reaches, constants}
 use Rattle.cut.specs.LetterField.{LetterField, keepers-apart}
 use Rattle.join.specs.declared.Joined.{Joined}
-use Rattle.join.specs.Join.{answer, joinRefusal, JoinDone, refused, judged, few, apart, wide, joined}
+use Rattle.join.specs.Join.{answer, hunted, joinRefusal, JoinDone, refused, judged, few, apart, wide, joined}
 use Rattle.join.specs.OutcomeLaws.{reaches-outcome}
 use Rattle.demands.specs.JoinAnswers.{not-refused-order}
 
@@ -23,10 +23,11 @@ pub record SecretAgreed (O : Ops) (order : Order) (stamp l : ℕ) (tray : List �
   pub reaches : Reaches O (order .t) (order .f) (order .n) (usable order stamp l tray) (wordOf tray l) l ps
   pub bytes : allAtMost 255 (constants ps) ≡ true
 
--- the join gives what the polynomials ps say: number 0, m, need, the keepers that match, and their constants in the room
+-- the join gives what the polynomials ps say: number 0, m, need, the keepers that match, the trials, and their constants in the room
 pub record Given (O : Ops) (order : Order) (stamp l : ℕ) (tray : List ℕ) (ps : List (List ℕ)) (result : Joined) (left : List ℕ) : Type 0 where
   pub answers : result ≡ answer 0 (usableMany order stamp l tray) (needed (order .t) (order .f) (order .n) (usable order stamp l tray))
       (keeperSet (agreeing O (usable order stamp l tray) (wordOf tray l) l ps) (order .n))
+      (hunted O (order .t) (order .f) (order .n) (usable order stamp l tray) (wordOf tray l) l)
   pub leaves : left ≡ constants ps
 
 -- a secret that is given was agreed on

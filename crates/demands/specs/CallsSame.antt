@@ -32,7 +32,7 @@ pub cs-join-same : {O : Ops} → LetterField O → {order : Order} {stamp l : �
 cs-join-same F {result = result} {result′} D D′ =
     let one = join-same F D D′ in
     let same : joinedAs result ≡ joinedAs result′ = one .0 in
-    (λ i. record { number = same i .number; usable = same i .usable; need = same i .need; set = same i .set }, one .1)
+    (λ i. record { number = same i .number; usable = same i .usable; need = same i .need; set = same i .set; trials = same i .trials }, one .1)
 
 pub cs-store-same : {order : Order} {keeper : ℕ} {held letter left left′ : List ℕ} {result result′ : StoreResult}
     → StoreDone order keeper held letter (storedAs result) left → StoreDone order keeper held letter (storedAs result′) left′ → (result ≡ result′) × (left ≡ left′)

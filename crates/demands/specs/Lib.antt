@@ -6,6 +6,8 @@ pub mod Accepted
 pub mod Recovery
 -- "a cut tray must be accepted"
 pub mod Untouched
+-- "It counts the sets up to and including the first": which that is, and how many there are
+pub mod Hunted
 -- the pick's number is that of the join of what it names
 pub mod Named
 -- "a sound, older stamp went unread": it is read

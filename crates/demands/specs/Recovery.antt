@@ -1,8 +1,8 @@
 -- Demand 2: of a cut tray, with at most f of its usable slots altered, the join gives the secret or none.
 -- Assumes nothing.
-use Prim.Native.Nat.{ℕ, _+_, _*_, _≤_}
-use mathlib.Core.Path.{_≡_, _∙_}
-use mathlib.Core.Bool.{Bool}
+use Prim.Native.Nat.{ℕ, _+_, _*_, _≤_, _<_}
+use mathlib.Core.Path.{_≡_, sym, ap, ap₂, _∙_}
+use mathlib.Core.Bool.{Bool, true}
 use mathlib.Core.List.{List}
 use mathlib.Core.Logic.{⊎-elim}
 use native.Mathlib.Omega.{arith}
@@ -22,20 +22,24 @@ use Rattle.header.specs.OrderLaws.{KeeperFacts}
 use Rattle.tray.specs.Tray.{slotOf, usable, usableMany, wordOf}
 use Rattle.agree.specs.Agreement.{matches, agreeing, needed}
 use Rattle.agree.specs.ReachesLaws.{agreeing-same}
+use Rattle.trials.specs.Trials.{trials}
+use Rattle.trials.specs.Within.{within}
 use Rattle.cut.specs.Cut.{cutTray}
 use Rattle.cut.specs.LetterField.{LetterField, keepers-apart, mod257-letters}
 use Rattle.cut.specs.OneCut.{OneCut}
 use Rattle.join.specs.declared.Joined.{Joined}
-use Rattle.join.specs.Join.{answer, JoinDone}
+use Rattle.join.specs.Join.{answer, hunt, JoinDone}
+use Rattle.join.specs.Lowest.{hunted-within}
 use Rattle.demands.specs.Accepted.{SecretAgreed, Given, zero-agreed, agreed-given}
 use Rattle.demands.specs.Altered.{unaltered, unalteredMany, EnoughLeft, AtMostAltered, count-usable}
 use Rattle.demands.specs.JoinAnswers.{cut-not-refused}
 use Rattle.demands.specs.CutPolynomials.{cutPolynomials, constants-cut, polynomials-cut, slot-matches, matches-slot}
 
--- the join gives the secret back: number 0, m, need, the usable keepers whose letters are unaltered, and the secret in the room
+-- the join gives the secret back: number 0, m, need, the usable keepers whose letters are unaltered, and the secret in the room; of the trials
+-- `unaltered-first` speaks
 pub record GivesBack (order : Order) (stamp : ℕ) (secret cut tray : List ℕ) (result : Joined) (left : List ℕ) : Type 0 where
   pub answers : result ≡ answer 0 (usableMany order stamp (length secret) tray) (needed (order .t) (order .f) (order .n) (usable order stamp (length secret) tray))
-      (keeperSet (unaltered order stamp (length secret) cut tray) (order .n))
+      (keeperSet (unaltered order stamp (length secret) cut tray) (order .n)) (result .trials)
   pub leaves : left ≡ secret
 
 module _ {O : Ops} (F : LetterField O) {order : Order} {stamp : ℕ} {secret random tray : List ℕ} (C : OneCut O order stamp secret random)
@@ -80,17 +84,34 @@ module _ {O : Ops} (F : LetterField O) {order : Order} {stamp : ℕ} {secret ran
   module _ {room left : List ℕ} {result : Joined} (D : JoinDone O order stamp (length secret) tray room result left) where
     given-back : Given O order stamp (length secret) tray ps result left → GivesBack order stamp secret cut tray result left
     given-back g = record {
-      answers = g .answers ∙ rw (keeper-set-same agrees (unaltered order stamp (length secret) cut tray) (order .n) (λ x least most. agrees-unaltered x (omega arith)));
+      answers =
+          let set = keeper-set-same agrees (unaltered order stamp (length secret) cut tray) (order .n) (λ x least most. agrees-unaltered x (omega arith)) in
+          let tried = sym (ap (λ (r : Joined). r .trials) (g .answers)) in
+          g .answers ∙ ap₂ (answer 0 _ _) set tried;
       leaves = g .leaves ∙ constants-cut (order .t) secret random;
     }
 
-    -- "The join never gives a wrong secret."
-    pub never-wrong : result .number ≡ 0 → GivesBack order stamp secret cut tray result left
-    never-wrong z =
+    -- a secret that is given was agreed on, by the cut's own polynomials
+    given-cut : result .number ≡ 0 → SecretAgreed O order stamp (length secret) tray ps × Given O order stamp (length secret) tray ps result left
+    given-cut z =
         let (qs, a, g) = zero-agreed D z in
         let e = agreeing-same (F .laws) (order .t) (order .n) (keepers-apart F order (C .order-lawful)) (usable order stamp (length secret) tray)
         (wordOf tray (length secret)) (length secret) qs ps (a .reaches .polynomials) (polynomials-cut F C) (omega (arith, a .reaches .enough, all-but-f)) in
-        given-back (rw e at g)
+        (rw e at a, rw e at g)
+
+    -- "The join never gives a wrong secret."
+    pub never-wrong : result .number ≡ 0 → GivesBack order stamp secret cut tray result left
+    never-wrong z = given-back (given-cut z .1)
+
+    -- the trials counted are the sets up to the first whose letters are all unaltered, where the letters' words are field words
+    pub tried-unaltered : ((x : ℕ) → KeeperFacts order x → usable order stamp (length secret) tray x ≡ true → (i : ℕ) → i < length secret → wordOf tray (length secret) x i < O .q)
+        → result .number ≡ 0
+        → result .trials ≡ trials (within (unaltered order stamp (length secret) cut tray)) (hunt (order .t) (order .n) (usable order stamp (length secret) tray))
+    tried-unaltered words z =
+        let (a, g) = given-cut z in
+        ap (λ (r : Joined). r .trials) (g .answers)
+        ∙ sym (hunted-within (F .laws) (keepers-apart F order (C .order-lawful)) (λ x least most. words x (omega arith)) (a .reaches)
+        (unaltered order stamp (length secret) cut tray) (λ x least most. sym (agrees-unaltered x (omega arith))))
 
     -- "It gives the right one if m is at least t+2f+1, and also for smaller m if at least t+f+1 usable letters are unaltered."
     pub gives-right : Below 256 secret → length tray ≡ 2048 * order .n → length room ≡ length secret → EnoughLeft order stamp (length secret) cut tray

@@ -1,14 +1,15 @@
--- An untouched cut tray is accepted, with every keeper in the set: a join that always refuses is shut out.
+-- An untouched cut tray is accepted at the first trial, with every keeper in the set: a join that always refuses is shut out.
 -- Assumes nothing.
-use Prim.Native.Nat.{ℕ, _-_}
-use mathlib.Core.Path.{_≡_, refl, _∙_}
+use Prim.Native.Nat.{ℕ, _+_, _-_, _<_}
+use mathlib.Core.Path.{_≡_, ap, _∙_}
 use mathlib.Core.Bool.{Bool, true}
-use mathlib.Core.List.{List, [], _∷_}
+use mathlib.Core.List.{List}
 use mathlib.Core.Logic.{inl}
 use native.Mathlib.Omega.{arith}
 use lib.ListN.{length}
-use Rattle.lists.specs.Below.{Below}
-use Rattle.lists.specs.Count.{count, count-same}
+use Rattle.lists.specs.Below.{Below, below-any}
+use Rattle.lists.specs.Chosen.{chosen, length-chosen, chosen-in}
+use Rattle.lists.specs.Count.{count, count-all}
 use Rattle.lists.specs.From.{from, length-from, from-in}
 use Rattle.lists.specs.KeeperSet.{keeperSet}
 use Rattle.lists.specs.KeeperSetLaws.{keeper-set-same}
@@ -16,21 +17,20 @@ use Rattle.lists.specs.SameBytes.{same-bytes-self}
 use Rattle.algebra.specs.Field.{Ops}
 use Rattle.header.specs.declared.order.Order.{Order}
 use Rattle.header.specs.OrderLaws.{KeeperFacts, lawful-order-facts}
-use Rattle.tray.specs.Tray.{slotOf, usable, usableMany}
+use Rattle.tray.specs.Tray.{slotOf, usable, usableMany, wordOf}
 use Rattle.tray.specs.UsableLaws.{reads-usable}
 use Rattle.agree.specs.Agreement.{needed}
-use Rattle.cut.specs.Cut.{cutTray}
+use Rattle.trials.specs.Lowest.{all-within}
+use Rattle.trials.specs.Trials.{trials}
+use Rattle.trials.specs.Within.{within}
+use Rattle.cut.specs.Cut.{shareWords, cutTray}
 use Rattle.cut.specs.LetterField.{LetterField}
-use Rattle.cut.specs.OneCut.{OneCut, length-cut-tray, below-cut-tray, read-cut}
+use Rattle.cut.specs.OneCut.{OneCut, length-cut-tray, below-cut-tray, read-cut, shares-cut}
+use Rattle.cut.specs.ShareWords.{below-share-words}
 use Rattle.join.specs.declared.Joined.{Joined}
-use Rattle.join.specs.Join.{answer, JoinDone}
+use Rattle.join.specs.Join.{answer, hunt, JoinDone}
 use Rattle.demands.specs.Altered.{unaltered, AtMostAltered, count-usable}
-use Rattle.demands.specs.Recovery.{gives-right}
-
-count-all : (xs : List ℕ) → count (λ x. true) xs ≡ length xs
-unfolding count
-count-all [] = refl
-count-all (x ∷ xs) = omega (arith, count-all xs)
+use Rattle.demands.specs.Recovery.{gives-right, tried-unaltered}
 
 module _ {O : Ops} (F : LetterField O) {order : Order} {stamp : ℕ} {secret random : List ℕ} (C : OneCut O order stamp secret random) where
   abbrev cut : List ℕ
@@ -44,7 +44,7 @@ module _ {O : Ops} (F : LetterField O) {order : Order} {stamp : ℕ} {secret ran
 
   all-keepers : (test : ℕ → Bool) → ((x : ℕ) → KeeperFacts order x → test x ≡ true) → count test (from 1 (order .n)) ≡ order .n
   all-keepers test h =
-      count-same test (λ x. true) (from 1 (order .n)) (λ x i. let b = from-in 1 (order .n) x i in h x (omega arith)) ∙ count-all (from 1 (order .n)) ∙ length-from 1 (order .n)
+      count-all test (from 1 (order .n)) (λ x i. let b = from-in 1 (order .n) x i in h x (omega arith)) ∙ length-from 1 (order .n)
 
   all-usable : usableMany order stamp (length secret) cut ≡ order .n
   all-usable = all-keepers (usable order stamp (length secret) cut) usable-cut
@@ -55,11 +55,23 @@ module _ {O : Ops} (F : LetterField O) {order : Order} {stamp : ℕ} {secret ran
     few = omega (arith, count-usable order stamp (length secret) cut cut (from 1 (order .n)), all-usable, all-keepers (unaltered order stamp (length secret) cut cut) unaltered-cut);
   }
 
+  words : (x : ℕ) → KeeperFacts order x → usable order stamp (length secret) cut x ≡ true → (i : ℕ) → i < length secret → wordOf cut (length secret) x i < O .q
+  unfolding wordOf
+  words x k u i h = rw (shares-cut F C x k) (below-any (O .q) (shareWords O (order .t) x secret random) (omega (arith, F .least)) (below-share-words O (order .t) x (F .laws) secret random) i)
+
+  -- every set lies within the unaltered letters
+  first-tried : trials (within (unaltered order stamp (length secret) cut cut)) (hunt (order .t) (order .n) (usable order stamp (length secret) cut)) ≡ 1
+  first-tried =
+      all-within (unaltered order stamp (length secret) cut cut) (chosen (usable order stamp (length secret) cut) (from 1 (order .n))) (order .t + 1)
+      (λ x m. let b = from-in 1 (order .n) x (chosen-in (usable order stamp (length secret) cut) (from 1 (order .n)) x m) in unaltered-cut x (omega arith))
+      (omega (arith, length-chosen (usable order stamp (length secret) cut) (from 1 (order .n)), all-usable, lawful-order-facts order (C .order-lawful)))
+
   pub untouched : Below 256 secret → {room left : List ℕ} {result : Joined} → length room ≡ length secret → JoinDone O order stamp (length secret) cut room result left
-      → (result ≡ answer 0 (order .n) (order .n - order .f) (keeperSet (λ x. true) (order .n))) × (left ≡ secret)
+      → (result ≡ answer 0 (order .n) (order .n - order .f) (keeperSet (λ x. true) (order .n)) 1) × (left ≡ secret)
   untouched bytes s D =
       let o = lawful-order-facts order (C .order-lawful) in
       let g = gives-right F C none-altered D bytes (length-cut-tray F C) s (inl (omega (arith, all-usable, o))) in
       let need : needed (order .t) (order .f) (order .n) (usable order stamp (length secret) cut) ≡ order .n - order .f = omega (arith, all-usable, o) in
       let set = keeper-set-same (unaltered order stamp (length secret) cut cut) (λ x. true) (order .n) (λ x least most. unaltered-cut x (omega arith)) in
-      (g .answers ∙ (λ i. answer 0 (all-usable i) (need i) (set i)), g .leaves)
+      let one = tried-unaltered F C none-altered D words (ap (λ (r : Joined). r .number) (g .answers)) ∙ first-tried in
+      (g .answers ∙ (λ i. answer 0 (all-usable i) (need i) (set i) (one i)), g .leaves)

@@ -12,21 +12,26 @@ use lib.ListN.{length, getD, replicate}
 use borrow.Author.Tests.{eq-eqb}
 use Rattle.lists.specs.AllTo.{allTo}
 use Rattle.lists.specs.Below.{Below, below-nil, below-cons, below-head, below-tail}
+use Rattle.lists.specs.Chosen.{chosen}
 use Rattle.lists.specs.Count.{count}
 use Rattle.lists.specs.From.{from}
 use Rattle.lists.specs.KeeperSet.{keeperSet}
 use Rattle.lists.specs.Total.{total}
+use Rattle.algebra.specs.Divide.{grow}
+use Rattle.algebra.specs.Interpolate.{interpolate}
 use Rattle.algebra.specs.Poly.{eval, eval-constant, Degree, degree-cons}
 use Rattle.algebra.specs.Ring.{zero-add, mul-cancel}
-use Rattle.field.specs.Modulo.{mod257}
+use Rattle.field.specs.Modulo.{reciprocals, mod257}
 use Rattle.field.specs.Laws.{mod257-field}
 use Rattle.block.specs.Check.{allAtMost, plainCheck, weightedCheck}
 use Rattle.block.specs.AtMostLaws.{at-most-below}
 use Rattle.header.specs.declared.order.Order.{Order}
 use Rattle.header.specs.Order.{lawfulOrder}
 use Rattle.header.specs.Terms.{lawfulStamp, termsNumber}
-use Rattle.agree.specs.Agreement.{Polynomials, matches}
+use Rattle.agree.specs.Agreement.{Polynomials, matches, reaching}
 use Rattle.agree.specs.ReachesLaws.{none-reaches}
+use Rattle.trials.specs.Sets.{sets}
+use Rattle.trials.specs.Trials.{trials}
 use Rattle.cut.specs.Cut.{shareWords}
 use Rattle.cut.specs.LetterField.{mod257-letters}
 use Rattle.join.specs.declared.Joined.{Joined}
@@ -61,19 +66,21 @@ pub record WorkedNumbers (stamp : ℕ) (room : List ℕ) : Type 0 where
   -- "share words of keepers 1..6 are 43, 143, 243, 86, 186, 29"
   pub c1 : shares (from 1 6) 1 (200 ∷ []) (100 ∷ []) ≡ each (43 ∷ 143 ∷ 243 ∷ 86 ∷ 186 ∷ 29 ∷ [])
   -- "all six, keeper 3's word made 0: need 5, answer 200, set 59"
-  pub c2 : Joins stamp room (43 ∷ 143 ∷ 0 ∷ 86 ∷ 186 ∷ 29 ∷ []) (answer 0 6 5 59) (200 ∷ [])
+  pub c2 : Joins stamp room (43 ∷ 143 ∷ 0 ∷ 86 ∷ 186 ∷ 29 ∷ []) (answer 0 6 5 59 1) (200 ∷ [])
+  -- "In C2 it is 1; with keeper 1 made 0 instead, it is 6": how many sets are tried
+  pub c2-keeper-1 : Joins stamp room (0 ∷ 143 ∷ 243 ∷ 86 ∷ 186 ∷ 29 ∷ []) (answer 0 6 5 62 6) (200 ∷ [])
   -- "keepers 3 and 4 made 0: 7"
-  pub c3 : Joins stamp room (43 ∷ 143 ∷ 0 ∷ 0 ∷ 186 ∷ 29 ∷ []) (answer 7 6 5 0) room
+  pub c3 : Joins stamp room (43 ∷ 143 ∷ 0 ∷ 0 ∷ 186 ∷ 29 ∷ []) (answer 7 6 5 0 15) room
   -- "keepers 1..4 only, keeper 3 made 0: need 3, answer 200"
-  pub c4 : Joins stamp room (43 ∷ 143 ∷ 0 ∷ 86 ∷ []) (answer 0 4 3 11) (200 ∷ [])
+  pub c4 : Joins stamp room (43 ∷ 143 ∷ 0 ∷ 86 ∷ []) (answer 0 4 3 11 1) (200 ∷ [])
   -- "keepers 1..3, unaltered: 200"
-  pub c5 : Joins stamp room (43 ∷ 143 ∷ 243 ∷ []) (answer 0 3 3 7) (200 ∷ [])
+  pub c5 : Joins stamp room (43 ∷ 143 ∷ 243 ∷ []) (answer 0 3 3 7 1) (200 ∷ [])
   -- "the same, keeper 3 made 0: 7"
-  pub c6 : Joins stamp room (43 ∷ 143 ∷ 0 ∷ []) (answer 7 3 3 0) room
+  pub c6 : Joins stamp room (43 ∷ 143 ∷ 0 ∷ []) (answer 7 3 3 0 3) room
   -- "keepers 1 and 2: 6"
-  pub c7 : Joins stamp room (43 ∷ 143 ∷ []) (answer 6 2 3 0) room
+  pub c7 : Joins stamp room (43 ∷ 143 ∷ []) (answer 6 2 3 0 0) room
   -- "keepers 1..3 holding 0, 1, 2: 8"
-  pub c8 : Joins stamp room (0 ∷ 1 ∷ 2 ∷ []) (answer 8 3 3 7) room
+  pub c8 : Joins stamp room (0 ∷ 1 ∷ 2 ∷ []) (answer 8 3 3 7 1) room
   -- "random word 0: all six words are 200"
   pub c9 : shares (from 1 6) 1 (200 ∷ []) (0 ∷ []) ≡ each (replicate 6 200)
   -- "t=2, f=0, n=16, secret 5, random words 7, 11: keepers 1, 2, 3, 16 hold 23, 63, 125, 106"
@@ -134,10 +141,11 @@ module _ (stamp : ℕ) (lawful : lawfulStamp stamp ≡ true) (room : List ℕ) (
 
   -- "Proved together: C1..C12."
   pub worked-numbers : WorkedNumbers stamp room
-  unfolding lawfulOrder shareWords eval from count keeperSet matches allTo allAtMost total
+  unfolding lawfulOrder shareWords eval from count keeperSet matches allTo allAtMost total chosen sets trials reaching interpolate grow reciprocals
   worked-numbers = record {
     c1 = refl;
     c2 = joins (43 ∷ 143 ∷ 0 ∷ 86 ∷ 186 ∷ 29 ∷ []) refl (joined cutLine (record { polynomials = cut-line; enough = omega arith }) refl);
+    c2-keeper-1 = joins (0 ∷ 143 ∷ 243 ∷ 86 ∷ 186 ∷ 29 ∷ []) refl (joined cutLine (record { polynomials = cut-line; enough = omega arith }) refl);
     c3 = joins (43 ∷ 143 ∷ 0 ∷ 0 ∷ 186 ∷ 29 ∷ []) refl (apart (omega arith) (none-reaches mod257-field 1 6 (omega arith) _ _ 1 1 cutLine cut-line (omega arith) (omega arith)));
     c4 = joins (43 ∷ 143 ∷ 0 ∷ 86 ∷ []) refl (joined cutLine (record { polynomials = cut-line; enough = omega arith }) refl);
     c5 = joins (43 ∷ 143 ∷ 243 ∷ []) refl (joined cutLine (record { polynomials = cut-line; enough = omega arith }) refl);

@@ -12,6 +12,7 @@ pub struct JoinResult {
     pub usable: u32,
     pub need: u32,
     pub set: u32,
+    pub trials: u32,
 }
 
 #[no_mangle]
@@ -33,5 +34,6 @@ pub extern "C" fn cs_join(
         usable: joined.usable,
         need: joined.need,
         set: joined.set as u32,
+        trials: joined.trials,
     }
 }

@@ -18,7 +18,7 @@ pub done-any-room : {O : Ops} → IsField O → {order : Order} {stamp l : ℕ} 
     → (joinRefusal order stamp l tray room ≡ 0 → order .n < O .q) → length room ≡ length other
     → JoinDone O order stamp l tray room result left → JoinDone O order stamp l tray other result′ left′ → result ≡ result′
 done-any-room F {order} {stamp} {l} {tray} {room} {other} apart s (refused h) (refused h′) =
-    ap (λ (number : ℕ). answer number 0 0 0) (same-refusal order stamp l tray room other s)
+    ap (λ (number : ℕ). answer number 0 0 0 0) (same-refusal order stamp l tray room other s)
 done-any-room F {order} {stamp} {l} {tray} {room} {other} apart s (refused h) (judged e D) = absurd (h (same-refusal order stamp l tray room other s ∙ e))
 done-any-room F {order} {stamp} {l} {tray} {room} {other} apart s (judged e D) (refused h) = absurd (h (sym (same-refusal order stamp l tray room other s) ∙ e))
 done-any-room F {other = other} apart s (judged e D) (judged e′ D′) = outcome-same F (apart e) (outcome-room other D .1) D′ .0

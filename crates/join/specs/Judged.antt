@@ -6,6 +6,7 @@ use mathlib.Core.Bool.{Bool, true, false, cond}
 use mathlib.Core.List.{List}
 use native.Mathlib.Omega.{arith}
 use lib.Count.{ones}
+use lib.ListN.{length}
 use Rattle.lists.specs.Count.{count}
 use Rattle.lists.specs.From.{from}
 use Rattle.lists.specs.KeeperSet.{keeperSet}
@@ -15,7 +16,7 @@ use Rattle.block.specs.Check.{allAtMost}
 use Rattle.agree.specs.Agreement.{agreeing, needed, Reaches, constants}
 use Rattle.agree.specs.Kept.{Agreed, Found}
 use Rattle.agree.specs.SizeLaws.{few-agree, enough-agree}
-use Rattle.join.specs.Join.{answer, Outcome, few, apart, wide, joined}
+use Rattle.join.specs.Join.{answer, hunt, hunted, Outcome, few, apart, wide, joined}
 use Rattle.join.specs.Revealed.{Revealed}
 
 least-needed : (t f n : ℕ) (us : ℕ → Bool) {m least : ℕ} → m ≡ count us (from 1 n) → least ≡ need m t f → least ≡ needed t f n us
@@ -27,21 +28,22 @@ pub agreed-found : {O : Ops} {t f n m least l set : ℕ} {us : ℕ → Bool} {wo
 agreed-found {t = t} {f} {n} {us = us} many enough found size = let needs = least-needed t f n us many enough in enough-agree found (omega arith)
 
 module _ {O : Ops} {t f n : ℕ} {us : ℕ → Bool} {word : ℕ → ℕ → ℕ} {l : ℕ} {room : List ℕ} where
-  reaching : (ps : List (List ℕ)) → Reaches O t f n us word l ps → (bytes : Bool) → allAtMost 255 (constants ps) ≡ bytes
-      → Outcome O t f n us word l room (answer (cond bytes 0 8) (count us (from 1 n)) (needed t f n us) (keeperSet (agreeing O us word l ps) n)) (cond bytes (constants ps) room)
-  reaching ps R true e = joined ps R e
-  reaching ps R false e = wide ps R e
+  by-bytes : (ps : List (List ℕ)) → Reaches O t f n us word l ps → (bytes : Bool) → allAtMost 255 (constants ps) ≡ bytes
+      → Outcome O t f n us word l room (answer (cond bytes 0 8) (count us (from 1 n)) (needed t f n us) (keeperSet (agreeing O us word l ps) n) (hunted O t f n us word l)) (cond bytes (constants ps) room)
+  by-bytes ps R true e = joined ps R e
+  by-bytes ps R false e = wide ps R e
 
   module _ {m least : ℕ} (many : m ≡ count us (from 1 n)) (enough : least ≡ need m t f) where
-    pub few-judged : m < t + f + 1 → Outcome O t f n us word l room (answer 6 m least 0) room
+    pub few-judged : m < t + f + 1 → Outcome O t f n us word l room (answer 6 m least 0 0) room
     few-judged h = rw (least-needed t f n us many enough, many) (few (omega arith))
 
-    pub apart-judged : {set : ℕ} → t + f + 1 ≤ m → Found O t f n us word l set → ones set < least → Outcome O t f n us word l room (answer 7 m least 0) room
-    apart-judged h found size =
+    pub apart-judged : {set all : ℕ} → t + f + 1 ≤ m → Found O t f n us word l set → ones set < least → all ≡ length (hunt t n us)
+        → Outcome O t f n us word l room (answer 7 m least 0 all) room
+    apart-judged h found size counts =
         let needs = least-needed t f n us many enough in
-        rw (needs, many) (apart (omega arith) (few-agree found (omega arith)))
+        rw (needs, many, counts) (apart (omega arith) (few-agree found (omega arith)))
 
-    pub agreed-judged : {set number : ℕ} {left : List ℕ} (a : Agreed O t f n us word l set) → Revealed (constants (a .polynomials)) room number left
-        → Outcome O t f n us word l room (answer number m least set) left
-    agreed-judged a o =
-        rw (least-needed t f n us many enough, many, a .agree, o .answers, o .leaves) (reaching (a .polynomials) (a .reaches) (allAtMost 255 (constants (a .polynomials))) refl)
+    pub agreed-judged : {set number tried : ℕ} {left : List ℕ} (a : Agreed O t f n us word l set) → Revealed (constants (a .polynomials)) room number left → tried ≡ hunted O t f n us word l
+        → Outcome O t f n us word l room (answer number m least set tried) left
+    agreed-judged a o counts =
+        rw (least-needed t f n us many enough, many, a .agree, counts, o .answers, o .leaves) (by-bytes (a .polynomials) (a .reaches) (allAtMost 255 (constants (a .polynomials))) refl)

@@ -1,6 +1,8 @@
 pub mod DoneLaws
+pub mod HuntLaws
 pub mod Join
 pub mod Judged
+pub mod Lowest
 pub mod OutcomeLaws
 pub mod RefusalLaws
 pub mod Revealed

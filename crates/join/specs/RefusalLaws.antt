@@ -1,20 +1,44 @@
--- What it says that a join is not refused.
+-- The numbers of the join's refusals, and what it says that there is none.
 -- Assumes nothing.
-use Prim.Native.Nat.{ℕ, _*_}
+use Prim.Native.Nat.{ℕ, zero, suc, _*_, _≤_}
 use mathlib.Core.Path.{_≡_, _∙_}
-use mathlib.Core.Bool.{_&&_}
+use mathlib.Core.Bool.{Bool, true, false, cond, _&&_}
 use mathlib.Core.List.{List}
-use lib.Dec.{eqb}
+use native.Mathlib.Omega.{arith}
+use lib.Dec.{eqb, eqb·suc-zero}
 use lib.ListN.{length}
 use Rattle.algebra.specs.Field.{Ops}
 use Rattle.header.specs.declared.order.Order.{Order}
-use Rattle.header.specs.FirstOf.{both-right}
+use Rattle.header.specs.FirstOf.{firstOf, both-right}
+use Rattle.header.specs.Order.{lawfulOrder}
 use Rattle.header.specs.Passing.{passed, passes, passing}
-use Rattle.header.specs.Terms.{termsNumber}
+use Rattle.header.specs.Terms.{lawfulStamp, lawfulLength, termsNumber}
 use Rattle.header.specs.TermsLaws.{TermsFacts, told-facts, facts-told}
 use Rattle.join.specs.Join.{joinRefusal, answer, JoinDone, refused}
 
+-- the shapes of the refusals
+of-one : (a : Bool) → cond a 0 4 ≤ 4
+of-one true = omega arith
+of-one false = omega arith
+
+of-three : (a b c : Bool) → cond a (cond b (cond c 0 3) 2) 1 ≤ 4
+of-three true true true = omega arith
+of-three true true false = omega arith
+of-three true false c = omega arith
+of-three false b c = omega arith
+
+first-most : (one two : ℕ) → one ≤ 4 → two ≤ 4 → firstOf one two ≤ 4
+first-most zero two a b = b
+first-most (suc one) two a b = rw eqb·suc-zero a
+
 module _ (order : Order) (stamp l : ℕ) (tray room : List ℕ) where
+  -- none is greater than 4
+  pub refusal-most : joinRefusal order stamp l tray room ≤ 4
+  unfolding joinRefusal termsNumber
+  refusal-most =
+      first-most (termsNumber order stamp l) _ (of-three (lawfulOrder order) (lawfulLength l) (lawfulStamp stamp))
+      (of-one (eqb (length tray) (2048 * order .n) && eqb (length room) l))
+
   pub record JoinFacts : Type 0 where
     pub of-terms : TermsFacts order stamp l
     pub tray-lent : length tray ≡ 2048 * order .n
@@ -34,5 +58,5 @@ module _ (order : Order) (stamp l : ℕ) (tray room : List ℕ) where
 
   -- a refusal is the promise already: its number, and the room as it was
   pub refused-done : (O : Ops) (number : ℕ) → number ≡ joinRefusal order stamp l tray room → (number ≡ 0 → ⊥)
-      → JoinDone O order stamp l tray room (answer number 0 0 0) room
+      → JoinDone O order stamp l tray room (answer number 0 0 0 0) room
   refused-done O number e other = rw e (refused (λ z. other (e ∙ z)))

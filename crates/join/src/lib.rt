@@ -13,27 +13,31 @@ use agree::agreement::agreement;
 use agree::agreement::need_of;
 use header::order::Order;
 use tray::scan;
+use trials::all_sets;
+use trials::trials_within;
 
 mod bytes;
 mod refusal;
 mod secret;
 
-// "The result has the number, m, need, and the keepers that match as a 16-bit set."
+// "The result has the number, m, need, and the keepers that match as a 16-bit set", and "a count of trials".
 pub struct Joined {
     pub number: u32,
     pub usable: u32,
     pub need: u32,
     pub set: u16,
+    pub trials: u32,
 }
 
-fn answer(number: u32, m: u32, need: u32, set: u16) -> Joined
-    ensures { λ r. ⌜ r ≡ answer number m need set ⌝ }
+fn answer(number: u32, m: u32, need: u32, set: u16, trials: u32) -> Joined
+    ensures { λ r. ⌜ r ≡ answer number m need set trials ⌝ }
 {
     Joined {
         number,
         usable: m,
         need,
         set,
+        trials,
     }
 }
 
@@ -45,16 +49,18 @@ fn judge(t: usize, f: usize, usable: u16, rows: &[u16], room: &mut [u8]) -> Join
     let m = u16::count_ones(usable);
     let need = need_of(m, t, f);
     if (m as usize) < t + f + 1 {
-        return answer(6, m, need, 0);
+        return answer(6, m, need, 0, 0);
     }
     let l = room.len();
     let set = agreement(t, f, usable, rows, l);
     if u16::count_ones(set) < need {
-        return answer(7, m, need, 0);
+        let trials = all_sets(usable, t);
+        return answer(7, m, need, 0, trials);
     }
+    let trials = trials_within(usable, set, t);
     let mut row = [0u16; 952];
     let number = reveal(t, set, rows, &mut row[..l], room);
-    answer(number, m, need, set)
+    answer(number, m, need, set, trials)
 }
 
 // The join that nothing forbids, with rows to work in, whatever field words they hold.
@@ -78,7 +84,7 @@ pub fn join(o: Order, stamp: u32, l: usize, tray: &[u8], room: &mut [u8]) -> Joi
 {
     let number = refusal(o, stamp, l, tray, room);
     if number != 0 {
-        return answer(number, 0, 0, 0);
+        return answer(number, 0, 0, 0, 0);
     }
     let mut rows = [0u16; 15232];
     join_over(o, stamp, l, tray, &mut rows, room)

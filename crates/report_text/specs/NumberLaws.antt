@@ -1,12 +1,10 @@
 -- The number of a report: none is greater than 8, and it is that of the last line.
 -- Assumes nothing.
-use Prim.Native.Nat.{ℕ, zero, suc, _*_, _≤_}
+use Prim.Native.Nat.{ℕ, _≤_}
 use mathlib.Core.Path.{_≡_, refl, sym, ap, _∙_}
-use mathlib.Core.Bool.{Bool, true, false, cond, _&&_}
 use mathlib.Core.List.{List, [], _∷_, _++_, append-assoc}
 use native.Mathlib.Omega.{arith}
 use lib.Count.{ones}
-use lib.Dec.{eqb, eqb·suc-zero}
 use lib.ListN.{length}
 use Rattle.lists.specs.Member.{below-in}
 use Rattle.field.specs.Modulo.{mod257}
@@ -14,40 +12,17 @@ use Rattle.block.specs.AtMostLaws.{at-most-below}
 use Rattle.block.specs.Check.{allAtMost}
 use Rattle.lines.specs.Lines.{stampLine, countLine, answerLine}
 use Rattle.header.specs.declared.order.Order.{Order}
-use Rattle.header.specs.FirstOf.{firstOf}
-use Rattle.header.specs.Order.{lawfulOrder}
-use Rattle.header.specs.Terms.{lawfulStamp, lawfulLength, termsNumber}
 use Rattle.pick.specs.declared.Picked.{Picked}
 use Rattle.pick.specs.Pick.{PickDone}
 use Rattle.pick.specs.NumberLaws.{picked-number}
 use Rattle.join.specs.declared.Joined.{Joined}
-use Rattle.join.specs.Join.{JoinDone, joinRefusal}
+use Rattle.join.specs.Join.{JoinDone}
 use Rattle.join.specs.Join as join
+use Rattle.join.specs.RefusalLaws.{refusal-most}
 use Rattle.report_text.specs.Report.{keeperLines, lines, orderIn, trayIn, ReportOf, short, unpicked, joined}
 
-first-most : (one two : ℕ) → one ≤ 8 → two ≤ 8 → firstOf one two ≤ 8
-first-most zero two a b = b
-first-most (suc one) two a b = rw eqb·suc-zero a
-
--- the shapes of the refusals
-of-one : (a : Bool) → cond a 0 4 ≤ 8
-of-one true = omega arith
-of-one false = omega arith
-
-of-three : (a b c : Bool) → cond a (cond b (cond c 0 3) 2) 1 ≤ 8
-of-three true true true = omega arith
-of-three true true false = omega arith
-of-three true false c = omega arith
-of-three false b c = omega arith
-
-refused-join : (order : Order) (stamp l : ℕ) (tray room : List ℕ) → joinRefusal order stamp l tray room ≤ 8
-unfolding joinRefusal termsNumber
-refused-join order stamp l tray room =
-    first-most (termsNumber order stamp l) _ (of-three (lawfulOrder order) (lawfulLength l) (lawfulStamp stamp))
-    (of-one (eqb (length tray) (2048 * order .n) && eqb (length room) l))
-
 join-number : {order : Order} {stamp l : ℕ} {tray room left : List ℕ} {result : Joined} → JoinDone mod257 order stamp l tray room result left → result .number ≤ 8
-join-number {order} {stamp} {l} {tray} {room} (join.refused h) = refused-join order stamp l tray room
+join-number {order} {stamp} {l} {tray} {room} (join.refused h) = omega (arith, refusal-most order stamp l tray room)
 join-number (join.judged e (join.few h)) = omega arith
 join-number (join.judged e (join.apart h g)) = omega arith
 join-number (join.judged e (join.wide ps h g)) = omega arith

@@ -3,6 +3,7 @@
 use super::block::{self, header};
 use super::keepers::Keepers;
 use super::search::search;
+use super::trials::{sets, trials};
 use super::{Row, ROW, STRIDE};
 use crate::block::BLOCK;
 use crate::field::{multiply, reciprocal, subtract};
@@ -32,22 +33,23 @@ pub fn join(order: Order, stamp: u32, length: u32, tray: &[u8], room: &mut [u8])
     let usable = scan(order, stamp, length, tray, &mut rows);
     let m = usable.all().len() as u32;
     let need = m.saturating_sub(order.f).max(order.fewest());
-    let answer = |number, set| Joined { number, usable: m, need, set };
+    let answer = |number, set, trials| Joined { number, usable: m, need, set, trials };
     if m < order.fewest() {
-        return answer(6, 0);
+        return answer(6, 0, 0);
     }
     let basis = order.t as usize + 1;
     let Some(agreed) = agreement(&rows, usable, basis, need as usize, size) else {
-        return answer(7, 0);
+        return answer(7, 0, sets(m as usize, basis));
     };
+    let trials = trials(usable.all(), agreed.all(), basis);
     let constants = constants(&rows, &agreed.all()[..basis], size);
     if constants[..size].contains(&256) {
-        return answer(8, agreed.set());
+        return answer(8, agreed.set(), trials);
     }
     for (byte, &constant) in room.iter_mut().zip(&constants) {
         *byte = constant as u8;
     }
-    answer(0, agreed.set())
+    answer(0, agreed.set(), trials)
 }
 
 /// The keepers whose letters can be used; their share words go to their rows.

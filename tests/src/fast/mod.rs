@@ -7,6 +7,7 @@ mod cut;
 mod join;
 mod keepers;
 mod search;
+mod trials;
 
 pub use cut::cut;
 pub use join::join;
