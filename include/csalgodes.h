@@ -152,11 +152,11 @@ typedef struct {
  * one is given if t+2f+1 letters are usable, or if t+f+1 usable ones are as they were cut.
  *
  * The trials say how long a hunt would be that takes one set of t+1 usable keepers after the other, in
- * dictionary order of rising keeper numbers: for t=2 {1,2,3}, {1,2,4} and so on. A set's polynomials are those of
- * degree at most t through its letters, one for each byte. For 0 and 8 the sets are counted up to and
- * including the first whose polynomials match at least need letters. For 7 all of them are, m choose t+1:
- * there are never more, and that is at most 12,870. The count does not say how long the join took: it is
- * computed, and no set is tried for it.
+ * dictionary order of rising keeper numbers: for t=2 {1,2,3}, {1,2,4} and so on. A set's polynomials are
+ * those of degree at most t through its letters, one for each byte. For 0 and 8 the sets are counted up to
+ * and including the first whose polynomials match at least need letters. For 7 all of them are, m choose
+ * t+1: there are never more, and that is at most 12,870. The count does not say how long the join took: it
+ * is computed, and no set is tried for it.
  *
  * Lent: the tray, n*2048 bytes; room for exactly length bytes.
  * Writes: the secret to all of the room where the number is 0, else nothing.

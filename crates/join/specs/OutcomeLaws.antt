@@ -60,21 +60,42 @@ outcome-room other (apart h none) = (other, apart h none)
 outcome-room other (wide ps R e) = (other, wide ps R e)
 outcome-room other (joined ps R e) = (constants ps, joined ps R e)
 
--- what the usable letters come to is said of the scan: the same scan, the same outcome
+-- What the usable letters come to is said of them alone: of how many they are, of who matches, of the sets tried, and of what reaches need.
+record Alike (O : Ops) (t f l n n′ : ℕ) (us us′ : ℕ → Bool) (word word′ : ℕ → ℕ → ℕ) : Type 0 where
+  many : count us (from 1 n) ≡ count us′ (from 1 n′)
+  set : (ps : List (List ℕ)) → keeperSet (agreeing O us word l ps) n ≡ keeperSet (agreeing O us′ word′ l ps) n′
+  all : hunt t n us ≡ hunt t n′ us′
+  tried : hunted O t f n us word l ≡ hunted O t f n′ us′ word′ l
+  there : (ps : List (List ℕ)) → Reaches O t f n us word l ps → Reaches O t f n′ us′ word′ l ps
+  back : (ps : List (List ℕ)) → Reaches O t f n′ us′ word′ l ps → Reaches O t f n us word l ps
+
+outcome-alike : {O : Ops} {t f l n n′ : ℕ} {us us′ : ℕ → Bool} {word word′ : ℕ → ℕ → ℕ} {room left : List ℕ} {result : Joined}
+    → Alike O t f l n n′ us us′ word word′ → Outcome O t f n us word l room result left → Outcome O t f n′ us′ word′ l room result left
+outcome-alike A (few h) = rw (A .many) (few (omega (arith, A .many)))
+outcome-alike A (apart h none) = rw (A .many, A .all) (apart (omega (arith, A .many)) (λ ps R. none ps (A .back ps R)))
+outcome-alike A (wide ps R e) = rw (A .many, A .set ps, A .tried) (wide ps (A .there ps R) e)
+outcome-alike A (joined ps R e) = rw (A .many, A .set ps, A .tried) (joined ps (A .there ps R) e)
+
+-- the same scan, the same outcome
 pub outcome-scan : {O : Ops} {t f n l : ℕ} {us us′ : ℕ → Bool} {word word′ : ℕ → ℕ → ℕ} {room left : List ℕ} {result : Joined} → SameScan n l us us′ word word′
     → Outcome O t f n us word l room result left → Outcome O t f n us′ word′ l room result left
-outcome-scan S (few h) = rw (scan-many S) (few (omega (arith, scan-many S)))
-outcome-scan {O} {t} {f} S (apart h none) = rw (scan-many S, hunt-scan S t) (apart (omega (arith, scan-many S)) (λ ps R. none ps (scan-reaches (scan-back S) O ps t f R)))
-outcome-scan {O} {t} {f} S (wide ps R e) = rw (scan-many S, scan-set S O ps, hunted-scan S O t f) (wide ps (scan-reaches S O ps t f R) e)
-outcome-scan {O} {t} {f} S (joined ps R e) = rw (scan-many S, scan-set S O ps, hunted-scan S O t f) (joined ps (scan-reaches S O ps t f R) e)
+outcome-scan {O} {t} {f} S = outcome-alike (record {
+  many = scan-many S;
+  set = λ ps. scan-set S O ps;
+  all = hunt-scan S t;
+  tried = hunted-scan S O t f;
+  there = λ ps. scan-reaches S O ps t f;
+  back = λ ps. scan-reaches (scan-back S) O ps t f;
+})
 
 -- keepers past k, none of whom is usable, change nothing
 pub outcome-within : {O : Ops} {t f k n l : ℕ} {us : ℕ → Bool} {word : ℕ → ℕ → ℕ} {room left : List ℕ} {result : Joined}
     → ((x : ℕ) → k < x → us x ≡ false) → k ≤ n → Outcome O t f n us word l room result left → Outcome O t f k us word l room result left
-outcome-within {k = k} {n} {us = us} none h (few g) = rw (count-past us k none n h) (few (omega (arith, count-past us k none n h)))
-outcome-within {O} {t} {f} {k} {n} {l} {us} {word} none h (apart g no-one) =
-    rw (count-past us k none n h, hunt-past none h t) (apart (omega (arith, count-past us k none n h)) (λ ps R. no-one ps (reaches-past none h O word l ps t f R)))
-outcome-within {O} {t} {f} {k} {n} {l} {us} {word} none h (wide ps R e) =
-    rw (count-past us k none n h, agreeing-past none h O word l ps, hunted-past none h O t f word l) (wide ps (reaches-within none h O word l ps t f R) e)
-outcome-within {O} {t} {f} {k} {n} {l} {us} {word} none h (joined ps R e) =
-    rw (count-past us k none n h, agreeing-past none h O word l ps, hunted-past none h O t f word l) (joined ps (reaches-within none h O word l ps t f R) e)
+outcome-within {O} {t} {f} {k} {n} {l} {us} {word} none h = outcome-alike (record {
+  many = count-past us k none n h;
+  set = agreeing-past none h O word l;
+  all = hunt-past none h t;
+  tried = hunted-past none h O t f word l;
+  there = λ ps. reaches-within none h O word l ps t f;
+  back = λ ps. reaches-past none h O word l ps t f;
+})

@@ -10,6 +10,7 @@ use lib.ListN.{length, getD}
 use Rattle.lists.specs.Below.{Below}
 use Rattle.lists.specs.Count.{bit, count, both}
 use Rattle.lists.specs.Different.{Different}
+use Rattle.lists.specs.Folded.{folded-same}
 use Rattle.lists.specs.Member.{In, in-getD, below-in}
 
 unfoldable pub chosen : (ℕ → Bool) → List ℕ → List ℕ
@@ -86,8 +87,7 @@ chosen-none f (x ∷ xs) h = rw (h x (inl refl), chosen-none f xs (λ y m. h y (
 -- tests that agree on the list choose the same
 pub chosen-same : (f g : ℕ → Bool) (xs : List ℕ) → ((x : ℕ) → In x xs → f x ≡ g x) → chosen f xs ≡ chosen g xs
 unfolding chosen
-chosen-same f g [] h = refl
-chosen-same f g (x ∷ xs) h = rw (h x (inl refl), chosen-same f g xs (λ y m. h y (inr m)))
+chosen-same = folded-same chosen (λ x b r. cond b (x ∷ r) r) (λ f g. refl) (λ f x xs. refl)
 
 -- to choose among the chosen is to choose those that pass both tests
 pub chosen-chosen : (f g : ℕ → Bool) (xs : List ℕ) → chosen g (chosen f xs) ≡ chosen (both f g) xs

@@ -7,6 +7,7 @@ use mathlib.Core.Logic.{inl, inr}
 use mathlib.Core.List.{List, [], _∷_, _++_}
 use native.Mathlib.Omega.{arith}
 use lib.ListN.{length}
+use Rattle.lists.specs.Folded.{folded-same}
 use Rattle.lists.specs.Member.{In}
 
 -- 1 for a test that passes, 0 for one that fails
@@ -62,8 +63,7 @@ count-mono f g (x ∷ xs) h = omega (arith, count-mono f g xs (λ y m. h y (inr 
 
 pub count-same : (f g : ℕ → Bool) (xs : List ℕ) → ((x : ℕ) → In x xs → f x ≡ g x) → count f xs ≡ count g xs
 unfolding count
-count-same f g [] h = refl
-count-same f g (x ∷ xs) h = rw (h x (inl refl), count-same f g xs (λ y m. h y (inr m)))
+count-same = folded-same count (λ x b n. bit b + n) (λ f g. refl) (λ f x xs. refl)
 
 -- where all pass, the count is the length
 pub count-all : (f : ℕ → Bool) (xs : List ℕ) → ((x : ℕ) → In x xs → f x ≡ true) → count f xs ≡ length xs

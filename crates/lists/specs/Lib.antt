@@ -8,6 +8,7 @@ pub mod Different
 pub mod Every
 pub mod ExactlyOne
 pub mod Filling
+pub mod Folded
 pub mod From
 pub mod Grown
 pub mod KeeperSet

@@ -54,9 +54,6 @@ module _ {usable set lack next many : ℕ} (C : Counting usable set lack next ma
     left-passed : member usable (next + 1) ≡ false → left usable next ≡ left usable (next + 1)
     left-passed e = left-next ∙ rw e
 
-    left-first : member usable (next + 1) ≡ true → left usable next ≡ (next + 1) ∷ left usable (next + 1)
-    left-first e = left-next ∙ rw e
-
     -- a keeper that is not usable is passed by
     module _ (out : member usable (next + 1) ≡ false) where
       pub counting-passed : Counting usable set lack (next + 1) many
@@ -70,45 +67,60 @@ module _ {usable set lack next many : ℕ} (C : Counting usable set lack next ma
       pub place-passed : place (member set) (left usable (next + 1)) lack ≡ place (member set) (left usable next) lack
       place-passed = rw (left-passed out)
 
-    module _ (of : member usable (next + 1) ≡ true) where
-      fewer : many - 1 ≡ length (left usable (next + 1))
-      fewer = omega (arith, C .size, ap length (left-first of))
+-- the next keeper is usable, and the set lacks some
+pub record Met (usable set lack next many : ℕ) : Type 0 where
+  pub counting : Counting usable set lack next many
+  pub lacks : lack ≡ 0 → ⊥
+  pub of : member usable (next + 1) ≡ true
 
-      enough-next : lack ≤ bit (member set (next + 1)) + count (member set) (left usable (next + 1))
-      unfolding count
-      enough-next = rw (left-first of) at (C .enough)
+module _ {usable set lack next many : ℕ} (M : Met usable set lack next many) where
+  some : next < 16
+  some = one-left (M .counting) (M .lacks)
 
-      pub many-some : 1 ≤ many
-      many-some = omega (arith, C .size, ap length (left-first of))
+  left-first : left usable next ≡ (next + 1) ∷ left usable (next + 1)
+  left-first = left-next (M .counting) some ∙ rw (M .of)
 
-      -- one of the set is included
-      module _ (has : member set (next + 1) ≡ true) (lacks : lack ≡ 0 → ⊥) where
-        pub counting-included : Counting usable set (lack - 1) (next + 1) (many - 1)
-        counting-included = record {
-          small = omega (arith, C .small);
-          bound = omega arith;
-          size = fewer;
-          enough = omega (arith, enough-next, ap bit has);
-        }
+  fewer : many - 1 ≡ length (left usable (next + 1))
+  fewer = omega (arith, M .counting .size, ap length left-first)
 
-        pub place-included : place (member set) (left usable (next + 1)) (lack - 1) ≡ place (member set) (left usable next) lack
-        place-included = sym (ap (λ (xs : List ℕ). place (member set) xs lack) (left-first of) ∙ place-next (member set) (next + 1) (left usable (next + 1)) lack lacks ∙ rw has)
+  pub many-some : 1 ≤ many
+  many-some = omega (arith, M .counting .size, ap length left-first)
 
-      -- another is skipped
-      module _ (has : member set (next + 1) ≡ false) (lacks : lack ≡ 0 → ⊥) where
-        pub counting-skipped : Counting usable set lack (next + 1) (many - 1)
-        counting-skipped = record {
-          small = C .small;
-          bound = omega arith;
-          size = fewer;
-          enough = omega (arith, enough-next, ap bit has);
-        }
+  enough-next : lack ≤ bit (member set (next + 1)) + count (member set) (left usable (next + 1))
+  unfolding count
+  enough-next = rw left-first at (M .counting .enough)
 
-        pub place-skipped : choose (many - 1) (lack - 1) + place (member set) (left usable (next + 1)) lack ≡ place (member set) (left usable next) lack
-        place-skipped = sym (ap (λ (xs : List ℕ). place (member set) xs lack) (left-first of) ∙ place-next (member set) (next + 1) (left usable (next + 1)) lack lacks ∙ rw (has, fewer))
+  place-here : place (member set) (left usable next) lack
+      ≡ cond (member set (next + 1)) (place (member set) (left usable (next + 1)) (lack - 1)) (choose (length (left usable (next + 1))) (lack - 1) + place (member set) (left usable (next + 1)) lack)
+  place-here = ap (λ (xs : List ℕ). place (member set) xs lack) left-first ∙ place-next (member set) (next + 1) (left usable (next + 1)) lack (M .lacks)
 
-        pub skipped-most : place (member set) (left usable (next + 1)) lack ≤ 12870
-        skipped-most =
-            let D = counting-skipped in
-            let most = choose-most (length (left usable (next + 1))) lack (omega (arith, many-most, fewer)) (C .small) in
-            omega (arith, place-most (member set) (left usable (next + 1)) lack (D .enough))
+  -- a keeper of the set is included
+  module _ (has : member set (next + 1) ≡ true) where
+    pub counting-included : Counting usable set (lack - 1) (next + 1) (many - 1)
+    counting-included = record {
+      small = omega (arith, M .counting .small);
+      bound = omega (arith, some);
+      size = fewer;
+      enough = omega (arith, enough-next, ap bit has);
+    }
+
+    pub place-included : place (member set) (left usable (next + 1)) (lack - 1) ≡ place (member set) (left usable next) lack
+    place-included = sym (place-here ∙ rw has)
+
+  -- another is skipped
+  module _ (has : member set (next + 1) ≡ false) where
+    pub counting-skipped : Counting usable set lack (next + 1) (many - 1)
+    counting-skipped = record {
+      small = M .counting .small;
+      bound = omega (arith, some);
+      size = fewer;
+      enough = omega (arith, enough-next, ap bit has);
+    }
+
+    pub place-skipped : choose (many - 1) (lack - 1) + place (member set) (left usable (next + 1)) lack ≡ place (member set) (left usable next) lack
+    place-skipped = sym (place-here ∙ rw (has, fewer))
+
+    pub skipped-most : place (member set) (left usable (next + 1)) lack ≤ 12870
+    skipped-most =
+        let most = choose-most (length (left usable (next + 1))) lack (omega (arith, many-most (M .counting), fewer)) (M .counting .small) in
+        omega (arith, place-most (member set) (left usable (next + 1)) lack (counting-skipped .enough))

@@ -5,6 +5,7 @@ use mathlib.Core.Path.{_≡_, refl, ap, _∙_}
 use mathlib.Core.Bool.{Bool, true, _&&_, and-eq-true-iff}
 use mathlib.Core.List.{List, [], _∷_}
 use mathlib.Core.Logic.{inl, inr}
+use Rattle.lists.specs.Folded.{folded-same}
 use Rattle.lists.specs.Member.{In}
 
 -- each number of a list passes a test: they lie within the set of those that do
@@ -25,5 +26,4 @@ each-within a (y ∷ z) h = and-eq-true-iff (a y) (within a z) .1 (h y (inl refl
 
 pub within-same : (a b : ℕ → Bool) (z : List ℕ) → ((x : ℕ) → In x z → a x ≡ b x) → within a z ≡ within b z
 unfolding within
-within-same a b [] h = refl
-within-same a b (y ∷ z) h = rw (h y (inl refl), within-same a b z (λ x m. h x (inr m)))
+within-same = folded-same within (λ x b rest. b && rest) (λ a b. refl) (λ a x z. refl)

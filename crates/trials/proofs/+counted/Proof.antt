@@ -1,7 +1,7 @@
 -- `trials::counted` meets its contract: a keeper that is not usable is passed by, one of the set is included, and another is skipped, with all the
 -- sets that it is of. The measure is the keepers remaining.
 -- Assumes nothing.
-use Prim.Native.Nat.{ℕ, _+_, _-_, _≤_, _<_}
+use Prim.Native.Nat.{ℕ, _+_, _-_, _<_}
 use mathlib.Core.Path.{_≡_, sym, _∙_}
 use mathlib.Core.Bool.{true, false}
 use native.Mathlib.Omega.{arith}
@@ -11,7 +11,7 @@ use borrow.Fn.Kinds.{In}
 use borrow.Fn.PlainCycle.{Measures}
 use Rattle.lists.specs.KeeperSet.{member}
 use Rattle.lists.specs.Recursion.{givenAt, askedBelow}
-use Rattle.trials.specs.Left.{left, Counting, many-most, many-some, one-left, counting-passed, place-passed, counting-included, place-included, counting-skipped, place-skipped, skipped-most}
+use Rattle.trials.specs.Left.{left, Counting, Met, many-most, many-some, one-left, counting-passed, place-passed, counting-included, place-included, counting-skipped, place-skipped, skipped-most}
 use Rattle.trials.specs.Lowest.{place-done}
 use Rattle.trials.proofs.counted.Reads as reads
 use Rattle.trials.proofs.counted.Kinds as kinds
@@ -41,11 +41,12 @@ module _ (t : ℕ) where
   out : (c : lts.Then2 calls given reads.Post) → (let a = c .before .before .before .args in member (a .usable) (a .next + 1) ≡ false)
   out c = sym (c .before .has .ensures) ∙ not-true _ (c .if2 .taken)
 
-  of : (c : lts.Else2 calls given reads.Post) → (let a = c .before .before .before .args in member (a .usable) (a .next + 1) ≡ true)
-  of c = sym (c .before .has .ensures) ∙ not-false _ (c .if2 .left)
-
-  one-of : (c : lts.Else2 calls given reads.Post) → 1 ≤ c .before .before .before .args .many
-  one-of c = many-some (counting (c .before .before .before)) (some (c .before .before)) (of c)
+  met : (c : lts.Else2 calls given reads.Post) → (let a = c .before .before .before .args in Met (a .usable) (a .set) (a .lack) (a .next) (a .many))
+  met c = record {
+    counting = counting (c .before .before .before);
+    lacks = c .before .before .if1 .left;
+    of = sym (c .before .has .ensures) ∙ not-false _ (c .if2 .left);
+  }
 
   in-set : (c : lts.Then3 calls given reads.Post) → (let a = c .before .before .before .before .before .args in member (a .set) (a .next + 1) ≡ true)
   in-set c = sym (c .before .has2 .ensures) ∙ c .if3 .taken
@@ -84,67 +85,42 @@ module _ (t : ℕ) where
   add-counted-2 c = search needs
 
   sub-counted-2 : lts.Need-sub-counted-2 calls given reads.Post
-  sub-counted-2 c =
-      let least = one-of (c .before .before) in
-      search needs
+  sub-counted-2 c = let least = many-some (met (c .before .before)) in search needs
 
   counted-requires-2 : lts.Need-counted-requires-2 calls given reads.Post
-  counted-requires-2 c κs =
-      let else2 = c .before .before in
-      let else1 = else2 .before .before in
-      let next = counting-included (counting (else1 .before)) (some else1) (of else2) (in-set c) (else1 .if1 .left) in
-      search needs
+  counted-requires-2 c κs = let next = counting-included (met (c .before .before)) (in-set c) in search needs
 
   returns-3 : lts.Need-returns-3 calls given reads.Post
-  returns-3 c =
-      let then3 = c .before in
-      let else2 = then3 .before .before in
-      let else1 = else2 .before .before in
-      c .counted2 .ensures ∙ place-included (counting (else1 .before)) (some else1) (of else2) (in-set then3) (else1 .if1 .left)
+  returns-3 c = c .counted2 .ensures ∙ place-included (met (c .before .before .before)) (in-set (c .before))
 
   sub-choose : lts.Need-sub-choose calls given reads.Post
-  sub-choose c =
-      let least = one-of (c .before .before) in
-      search needs
+  sub-choose c = let least = many-some (met (c .before .before)) in search needs
 
   sub-choose-2 : lts.Need-sub-choose-2 calls given reads.Post
   sub-choose-2 c = search needs
 
   choose-requires : lts.Need-choose-requires calls given reads.Post
-  choose-requires c κs =
-      let else1 = c .before .before .before .before in
-      let C = counting (else1 .before) in
-      (omega (arith, many-most C), omega (arith, C .small))
+  choose-requires c κs = let C = met (c .before .before) .counting in (omega (arith, many-most C), omega (arith, C .small))
 
   add-counted-3 : lts.Need-add-counted-3 calls given reads.Post
   add-counted-3 c = search needs
 
   sub-counted-3 : lts.Need-sub-counted-3 calls given reads.Post
-  sub-counted-3 c =
-      let least = one-of (c .before .before .before) in
-      search needs
+  sub-counted-3 c = let least = many-some (met (c .before .before .before)) in search needs
 
   counted-requires-3 : lts.Need-counted-requires-3 calls given reads.Post
-  counted-requires-3 c κs =
-      let else2 = c .before .before .before in
-      let else1 = else2 .before .before in
-      let next = counting-skipped (counting (else1 .before)) (some else1) (of else2) (not-in-set (c .before)) (else1 .if1 .left) in
-      search needs
+  counted-requires-3 c κs = let next = counting-skipped (met (c .before .before .before)) (not-in-set (c .before)) in search needs
 
   add-result : lts.Need-add-result calls given reads.Post
   add-result c =
       let else3 = c .before .before in
-      let else2 = else3 .before .before in
-      let else1 = else2 .before .before in
-      let most = skipped-most (counting (else1 .before)) (some else1) (of else2) (not-in-set else3) (else1 .if1 .left) in
+      let most = skipped-most (met (else3 .before .before)) (not-in-set else3) in
       record { fits = omega (arith, c .before .choose .ensures .1, c .counted3 .ensures) }
 
   returns-4 : lts.Need-returns-4 calls given reads.Post
   returns-4 c =
       let else3 = c .before .before in
-      let else2 = else3 .before .before in
-      let else1 = else2 .before .before in
-      rw (c .before .choose .ensures .0, c .counted3 .ensures) (place-skipped (counting (else1 .before)) (some else1) (of else2) (not-in-set else3) (else1 .if1 .left))
+      rw (c .before .choose .ensures .0, c .counted3 .ensures) (place-skipped (met (else3 .before .before)) (not-in-set else3))
 
   spec : {M : Type 1} → lts.Closed calls given reads.Post M
   spec =
