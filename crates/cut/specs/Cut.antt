@@ -1,26 +1,18 @@
 -- The cut of a secret into letters.
 -- Assumes nothing.
-use Prim.Native.Nat.{ℕ, suc, _*_}
-use mathlib.Core.Path.{_≡_}
-use mathlib.Core.Bool.{Bool, cond, _&&_}
-use mathlib.Core.List.{List, [], _∷_}
-use lib.Dec.{eqb}
-use lib.ListN.{length, take, drop}
+use Prim.Native.Nat.{ℕ, suc}
+use mathlib.Core.List.{List}
+use lib.ListN.{length}
 use Rattle.lists.specs.Pieces.{pieces}
 use Rattle.algebra.specs.Field.{Ops}
-use Rattle.algebra.specs.Poly.{eval}
-use Rattle.block.specs.Check.{allAtMost}
 use Rattle.header.specs.declared.order.Order.{Order}
 use Rattle.header.specs.FirstOf.{firstOf}
 use Rattle.header.specs.Terms.{termsNumber}
 use Rattle.format.specs.Letter.{letterBytes}
 use Rattle.tray.specs.Tray.{headFor}
-
--- "For byte i the coefficients of x, x^2, .. x^t are words i*t .. i*t+t-1, and the constant is the byte. Keeper x's share word i is the
--- polynomial's value at x." The constants may be any field words.
-unfoldable pub shareWords : Ops → ℕ → ℕ → List ℕ → List ℕ → List ℕ
-shareWords O t x [] random = []
-shareWords O t x (constant ∷ constants) random = eval O (constant ∷ take t random) x ∷ shareWords O t x constants (drop t random)
+use Rattle.shares.specs.Fills.{Fills}
+use Rattle.shares.specs.Lent.{lentNumber}
+use Rattle.shares.specs.Shares.{shareWords}
 
 -- keeper x's letter
 unfoldable pub letterOf : Ops → Order → ℕ → List ℕ → List ℕ → ℕ → List ℕ
@@ -30,16 +22,11 @@ letterOf O order stamp secret random x = letterBytes (headFor order stamp (lengt
 unfoldable pub cutTray : Ops → Order → ℕ → List ℕ → List ℕ → List ℕ
 cutTray O order stamp secret random = pieces (λ k. letterOf O order stamp secret random (suc k)) (order .n)
 
--- "Lent: order, stamp, L secret bytes, exactly L*t random words, a tray to fill."
-abbrev pub lentRight : Order → List ℕ → List ℕ → List ℕ → Bool
-lentRight order secret random tray = eqb (length random) (length secret * order .t) && eqb (length tray) (2048 * order .n)
-
--- "Refusals: 1, 2, 3, 4, 5.": of what is told, then of what is lent
+-- "Lent: order, stamp, L secret bytes, exactly L*t random words, a tray to fill." "Refusals: 1, 2, 3, 4, 5.": of what is told, then of what is lent
 unfoldable pub cutNumber : Order → ℕ → List ℕ → List ℕ → List ℕ → ℕ
-cutNumber order stamp secret random tray =
-    firstOf (termsNumber order stamp (length secret)) (cond (lentRight order secret random tray) (cond (allAtMost 256 random) 0 5) 4)
+cutNumber order stamp secret random tray = firstOf (termsNumber order stamp (length secret)) (lentNumber order secret random 2048 tray)
 
 -- what the cut answers and leaves: its number, and the tray, which only 0 changes
-pub record CutDone (O : Ops) (order : Order) (stamp : ℕ) (secret random tray : List ℕ) (number : ℕ) (left : List ℕ) : Type 0 where
-  pub answers : number ≡ cutNumber order stamp secret random tray
-  pub leaves : left ≡ cond (eqb (cutNumber order stamp secret random tray) 0) (cutTray O order stamp secret random) tray
+abbrev pub CutDone : Ops → Order → ℕ → List ℕ → List ℕ → List ℕ → ℕ → List ℕ → Type 0
+CutDone O order stamp secret random tray number left =
+    Fills (cutNumber order stamp secret random tray) (cutTray O order stamp secret random) tray number left

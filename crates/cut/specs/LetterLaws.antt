@@ -4,10 +4,8 @@ use Prim.Native.Nat.{ℕ, suc, _+_, _*_, _<_}
 use mathlib.Core.Path.{_≡_, ap, _∙_}
 use mathlib.Core.Bool.{true}
 use mathlib.Core.List.{List}
-use native.Mathlib.Numerals.{add-one}
 use native.Mathlib.Omega.{arith}
 use lib.ListN.{length}
-use Rattle.lists.specs.Below.{Below}
 use Rattle.lists.specs.Pieces.{pieces, pieces-same}
 use Rattle.algebra.specs.Field.{Ops}
 use Rattle.header.specs.declared.order.Order.{Order}
@@ -15,8 +13,9 @@ use Rattle.header.specs.Head.{lawfulHead}
 use Rattle.header.specs.HeadLaws.{facts-lawful-head}
 use Rattle.format.specs.Letter.{letterBytes}
 use Rattle.tray.specs.Tray.{headFor}
-use Rattle.cut.specs.Columns.{columnsOf, valuesFrom}
-use Rattle.cut.specs.ColumnLaws.{length-columns, below-columns, values-shares}
+use Rattle.shares.specs.Columns.{columnsOf, valuesFrom}
+use Rattle.shares.specs.ColumnLaws.{values-shares}
+use Rattle.shares.specs.LentLaws.{laid-length, laid-within}
 use Rattle.cut.specs.Cut.{letterOf, cutTray}
 use Rattle.cut.specs.CutLaws.{CutFacts}
 use Rattle.cut.specs.Letters.{letterFrom, LettersLent}
@@ -35,13 +34,13 @@ lent-lawful {order} {stamp} {l} lent k h =
 
 module _ (order : Order) (stamp : ℕ) (secret random columns : List ℕ) (l : ℕ) (laid : columns ≡ columnsOf (order .t) secret random) (long : l ≡ length secret) where
   -- laid out, the letters are lent what they want
-  pub laid-lent : (tray : List ℕ) → CutFacts order stamp secret random tray → Below 257 secret → LettersLent order stamp columns l (length tray)
-  laid-lent tray facts bytes =
+  pub laid-lent : (tray : List ℕ) → CutFacts order stamp secret random tray → LettersLent order stamp columns l (length tray)
+  laid-lent tray facts =
       record {
         of-terms = rw long (facts .of-terms);
-        columns-lent = rw (laid, long, add-one) (length-columns (order .t) secret random);
-        columns-within = rw laid (below-columns (order .t) secret random (facts .words-lent) 257 bytes (facts .words-within));
-        tray-lent = facts .tray-lent;
+        columns-lent = rw long (laid-length (facts .of-lent) laid);
+        columns-within = laid-within (facts .of-lent) laid;
+        tray-lent = facts .of-lent .room-lent;
       }
 
   -- and they are the cut's

@@ -10,7 +10,7 @@ use Rattle.header.specs.declared.order.Order.{Order}
 use Rattle.header.specs.TermsLaws.{TermsFacts}
 use Rattle.format.specs.Letter.{letterBytes}
 use Rattle.tray.specs.Tray.{headFor}
-use Rattle.cut.specs.Columns.{valuesFrom}
+use Rattle.shares.specs.Columns.{valuesFrom}
 
 -- keeper x's letter, of columns of l words
 abbrev pub letterFrom : Ops → Order → ℕ → List ℕ → ℕ → ℕ → List ℕ

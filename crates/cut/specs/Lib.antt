@@ -1,11 +1,6 @@
-pub mod ColumnLaws
-pub mod Columns
 pub mod Cut
 pub mod CutLaws
-pub mod Horner
+pub mod LetterField
 pub mod LetterLaws
 pub mod Letters
-pub mod RowLaws
-pub mod ShareWords
-pub mod LetterField
 pub mod OneCut

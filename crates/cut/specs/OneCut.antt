@@ -11,31 +11,28 @@ use Rattle.lists.specs.Below.{Below}
 use Rattle.lists.specs.Pieces.{length-pieces, part-pieces, below-pieces}
 use Rattle.algebra.specs.Field.{Ops}
 use Rattle.header.specs.declared.order.Order.{Order}
-use Rattle.header.specs.Order.{lawfulOrder}
 use Rattle.header.specs.OrderLaws.{KeeperFacts, facts-lawful-keeper}
 use Rattle.header.specs.Head.{lawfulHead}
-use Rattle.header.specs.Terms.{lawfulStamp, lawfulLength}
+use Rattle.header.specs.Terms.{lawfulStamp}
 use Rattle.format.specs.declared.reader.Reading.the-variants.{Good}
 use Rattle.format.specs.Reading.{readOf, sharesOf}
 use Rattle.format.specs.WrittenReads.{Reads, written-reads}
 use Rattle.tray.specs.Tray.{headFor, slotOf}
-use Rattle.cut.specs.Cut.{shareWords, letterOf, cutTray}
+use Rattle.shares.specs.OneWords.{OneWords}
+use Rattle.shares.specs.Shares.{shareWords}
+use Rattle.shares.specs.ShareWords.{length-share-words, below-share-words}
+use Rattle.cut.specs.Cut.{letterOf, cutTray}
 use Rattle.cut.specs.LetterField.{LetterField}
-use Rattle.cut.specs.ShareWords.{length-share-words, below-share-words}
 
--- What one cut is given: a lawful order, stamp and length, constants that are field words, and "exactly L*t random words".
+-- What one cut into letters is given: all that a cut of words is, and a lawful stamp.
 pub record OneCut (O : Ops) (order : Order) (stamp : ℕ) (constants random : List ℕ) : Type 0 where
-  pub order-lawful : lawfulOrder order ≡ true
+  pub of-words : OneWords O order constants random
   pub stamp-lawful : lawfulStamp stamp ≡ true
-  pub length-lawful : lawfulLength (length constants) ≡ true
-  pub constants-below : Below (O .q) constants
-  pub random-size : length random ≡ length constants * order .t
-  pub random-below : Below (O .q) random
 
 module _ {O : Ops} (F : LetterField O) {order : Order} {stamp : ℕ} {constants random : List ℕ} (C : OneCut O order stamp constants random) where
   head-lawful : (x : ℕ) → KeeperFacts order x → lawfulHead (headFor order stamp (length constants) x) ≡ true
   unfolding lawfulHead
-  head-lawful x k = rw (C .order-lawful, facts-lawful-keeper order x k, C .stamp-lawful) (C .length-lawful)
+  head-lawful x k = rw (C .of-words .order-lawful, facts-lawful-keeper order x k, C .stamp-lawful) (C .of-words .length-lawful)
 
   -- keeper x's letter reads as written
   letter-reads : (x : ℕ) → KeeperFacts order x → Reads (headFor order stamp (length constants) x) (shareWords O (order .t) x constants random)

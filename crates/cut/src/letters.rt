@@ -1,7 +1,7 @@
 // The letters of a cut, of the columns that its secret and its random words are laid out in.
 ghost use mathlib.Core.Path.{_≡_};
 ghost use mathlib.Core.Bool.{true};
-ghost use Prim.Native.Nat.{suc, _+_, _*_, _≤_};
+ghost use Prim.Native.Nat.{suc, _+_, _*_};
 ghost use lib.ListN.{length};
 ghost use Rattle.lists.specs.Below.{Below};
 ghost use Rattle.lists.specs.Pieces.{pieces};
@@ -9,17 +9,11 @@ ghost use Rattle.field.specs.Modulo.{mod257};
 ghost use Rattle.header.specs.Head.{lawfulHead};
 ghost use Rattle.tray.specs.Tray.{headFor};
 ghost use Rattle.cut.specs.Letters.{letterFrom, LettersLent};
-use crate::rows::share_row;
 use format::letter::write;
 use header::order::Order;
+use shares::rows::narrow;
+use shares::rows::share_row;
 use tray::head_for;
-
-fn narrow(x: usize) -> u16
-    requires { ⌜ x ≤ 16 ⌝ }
-    ensures { λ r. ⌜ r ≡ x ⌝ }
-{
-    x as u16
-}
 
 // Writes keeper x's letter into its slot. The row is room to work in.
 fn write_letter(o: Order, stamp: u32, columns: &[u16], x: usize, row: &mut [u16], slot: &mut [u8])

@@ -4,10 +4,28 @@ ghost use Prim.Native.Nat.{_+_, _*_};
 ghost use lib.ListN.{length};
 ghost use Rattle.field.specs.Modulo.{mod257};
 ghost use Rattle.cut.specs.Cut.{cutNumber, cutTray, CutDone};
-use crate::columns::lay_out;
 use crate::letters::write_letters;
 use crate::refusal::refusal;
 use header::order::Order;
+use shares::columns::lay_out;
+
+fn wide(byte: u8) -> u16
+    ensures { λ r. ⌜ r ≡ byte ⌝ }
+{
+    byte as u16
+}
+
+// The constants: the secret's bytes, as words.
+fn put_bytes(secret: &[u8], row: &mut [u16])
+    requires { ⌜ length (now row) ≡ length (now secret) ⌝ }
+    ensures { λ _. ⌜ now (row .exit) ≡ now (secret .entry) ⌝ }
+{
+    let mut i = 0;
+    while i < secret.len() {
+        row[i] = wide(secret[i]);
+        i += 1;
+    }
+}
 
 // Fills a tray with a letter for each keeper. The columns and the row are room to work in.
 fn fill(
@@ -22,7 +40,8 @@ fn fill(
     requires { ⌜ cutNumber o stamp (now secret) (now random) (now tray) ≡ 0 ⌝ ∗ ⌜ length (now columns) ≡ length (now secret) * (o .t + 1) ⌝ ∗ ⌜ length (now row) ≡ length (now secret) ⌝ }
     ensures { λ _. ⌜ now (tray .exit) ≡ cutTray mod257 o stamp (now (secret .entry)) (now (random .entry)) ⌝ }
 {
-    lay_out(secret, random, o.t, columns);
+    put_bytes(secret, row);
+    lay_out(row, random, o.t, columns);
     write_letters(o, stamp, columns, row, tray);
 }
 

@@ -2,7 +2,7 @@
 -- Assumes nothing.
 use Prim.Native.Nat.{ℕ}
 use mathlib.Core.Path.{_≡_, refl, ap}
-use mathlib.Core.Bool.{true}
+use mathlib.Core.Bool.{true, cond}
 use mathlib.Core.List.{List}
 use mathlib.Core.Logic.{_↔_}
 use native.Mathlib.Omega.{arith}
@@ -23,12 +23,16 @@ pub record SecretAgreed (O : Ops) (order : Order) (stamp l : ℕ) (tray : List �
   pub reaches : Reaches O (order .t) (order .f) (order .n) (usable order stamp l tray) (wordOf tray l) l ps
   pub bytes : allAtMost 255 (constants ps) ≡ true
 
--- the join gives what the polynomials ps say: number 0, m, need, the keepers that match, the trials, and their constants in the room
-pub record Given (O : Ops) (order : Order) (stamp l : ℕ) (tray : List ℕ) (ps : List (List ℕ)) (result : Joined) (left : List ℕ) : Type 0 where
-  pub answers : result ≡ answer 0 (usableMany order stamp l tray) (needed (order .t) (order .f) (order .n) (usable order stamp l tray))
+-- the join tells of the polynomials ps: a number, m, need, the keepers that match, the trials, and what is given in the room
+pub record Tells (O : Ops) (order : Order) (stamp l : ℕ) (tray : List ℕ) (ps : List (List ℕ)) (number : ℕ) (given : List ℕ) (result : Joined) (left : List ℕ) : Type 0 where
+  pub answers : result ≡ answer number (usableMany order stamp l tray) (needed (order .t) (order .f) (order .n) (usable order stamp l tray))
       (keeperSet (agreeing O (usable order stamp l tray) (wordOf tray l) l ps) (order .n))
       (hunted O (order .t) (order .f) (order .n) (usable order stamp l tray) (wordOf tray l) l)
-  pub leaves : left ≡ constants ps
+  pub leaves : left ≡ given
+
+-- it gives what they say: number 0, and their constants
+abbrev pub Given : Ops → Order → ℕ → ℕ → List ℕ → List (List ℕ) → Joined → List ℕ → Type 0
+Given O order stamp l tray ps result left = Tells O order stamp l tray ps 0 (constants ps) result left
 
 -- a secret that is given was agreed on
 pub zero-agreed : {O : Ops} {order : Order} {stamp l : ℕ} {tray room left : List ℕ} {result : Joined} → JoinDone O order stamp l tray room result left
@@ -39,14 +43,21 @@ zero-agreed (judged e (apart h none)) z = absurd (omega arith)
 zero-agreed (judged e (wide ps R b)) z = absurd (omega arith)
 zero-agreed (judged e (joined ps R b)) z = (ps, record { reaches = R; bytes = b }, record { answers = refl; leaves = refl })
 
+-- polynomials that reach need are told of: given where their constants are bytes; where one is 256, with 8, and the room is left
+pub reached-told : {O : Ops} → LetterField O → {order : Order} {stamp l : ℕ} {tray room left : List ℕ} {result : Joined}
+    → JoinDone O order stamp l tray room result left → joinRefusal order stamp l tray room ≡ 0 → (ps : List (List ℕ))
+    → Reaches O (order .t) (order .f) (order .n) (usable order stamp l tray) (wordOf tray l) l ps
+    → Tells O order stamp l tray ps (cond (allAtMost 255 (constants ps)) 0 8) (cond (allAtMost 255 (constants ps)) (constants ps) room) result left
+reached-told F (refused h) z ps R = absurd (h z)
+reached-told F {order} {stamp} {l} {tray} {room} (judged e D) z ps R =
+    let g = reaches-outcome (F .laws) (keepers-apart F order (not-refused-order order stamp l tray room e)) D ps R in
+    record { answers = g .0; leaves = g .1 }
+
 -- what is agreed on is given
-pub agreed-given : {O : Ops} → LetterField O → {order : Order} {stamp l : ℕ} {tray room left : List ℕ} {result : Joined}
+agreed-given : {O : Ops} → LetterField O → {order : Order} {stamp l : ℕ} {tray room left : List ℕ} {result : Joined}
     → JoinDone O order stamp l tray room result left → joinRefusal order stamp l tray room ≡ 0 → (ps : List (List ℕ)) → SecretAgreed O order stamp l tray ps
     → Given O order stamp l tray ps result left
-agreed-given F (refused h) z ps A = absurd (h z)
-agreed-given F {order} {stamp} {l} {tray} {room} (judged e D) z ps A =
-    let g = rw (A .bytes) at (reaches-outcome (F .laws) (keepers-apart F order (not-refused-order order stamp l tray room e)) D ps (A .reaches)) in
-    record { answers = g .0; leaves = g .1 }
+agreed-given F D z ps A = rw (A .bytes) at (reached-told F D z ps (A .reaches))
 
 -- where nothing lent is refused, 0 is answered exactly when polynomials match enough letters and all their constants are bytes
 pub accepted : {O : Ops} → LetterField O → {order : Order} {stamp l : ℕ} {tray room left : List ℕ} {result : Joined}

@@ -1,48 +1,79 @@
--- A cut of bytes answers 0 exactly where it is one cut with a tray to fill, and leaves that cut's tray.
+-- A cut answers 0 exactly where it is one cut with room to fill, and leaves there what that cut makes: letters, or rows.
 -- Assumes nothing.
 use Prim.Native.Nat.{ℕ, _*_}
 use mathlib.Core.Path.{_≡_, sym, _∙_}
+use mathlib.Core.Bool.{true}
 use mathlib.Core.List.{List}
-use native.Mathlib.Omega.{arith}
 use lib.ListN.{length}
-use Rattle.lists.specs.Below.{Below}
 use Rattle.field.specs.Modulo.{mod257}
 use Rattle.header.specs.declared.order.Order.{Order}
+use Rattle.header.specs.Order.{lawfulOrder}
+use Rattle.header.specs.OrderLaws.{lawful-order-facts, facts-lawful-order}
+use Rattle.header.specs.Passing.{passed, passes}
+use Rattle.header.specs.Terms.{lawfulLength}
 use Rattle.header.specs.TermsLaws.{lawful-terms-facts, facts-lawful-terms}
-use Rattle.cut.specs.Cut.{cutNumber, cutTray, CutDone}
+use Rattle.shares.specs.Fills.{filled}
+use Rattle.shares.specs.LentLaws.{LentFacts}
+use Rattle.shares.specs.OneWords.{OneWords}
+use Rattle.shares.specs.Words.{shareRows, WordsDone}
+use Rattle.shares.specs.WordsLaws.{accepted-words, words-accepted}
+use Rattle.cut.specs.Cut.{cutTray, CutDone}
 use Rattle.cut.specs.CutLaws.{accepted-facts, facts-accepted}
 use Rattle.cut.specs.OneCut.{OneCut}
 
--- what a cut leaves that answers 0
-cut-left : {order : Order} {stamp number : ℕ} {secret random tray left : List ℕ} → CutDone mod257 order stamp secret random tray number left
-    → cutNumber order stamp secret random tray ≡ 0 → left ≡ cutTray mod257 order stamp secret random
-cut-left D e = D .leaves ∙ rw e
+-- what is lent to a cut that is not refused is what one cut is given
+module _ (order : Order) (constants random : List ℕ) (each : ℕ) (room : List ℕ) where
+  lent-one : lawfulOrder order ≡ true → lawfulLength (length constants) ≡ true → LentFacts order constants random each room → OneWords mod257 order constants random
+  lent-one order-lawful length-lawful h = record {
+    order-lawful = order-lawful;
+    length-lawful = length-lawful;
+    constants-below = h .constants-within;
+    random-size = h .words-lent;
+    random-below = h .words-within;
+  }
 
--- a cut of bytes that answers 0 is one cut, and leaves its tray
-pub zero-one-cut : {order : Order} {stamp : ℕ} {secret random tray left : List ℕ} → CutDone mod257 order stamp secret random tray 0 left → Below 256 secret
-    → OneCut mod257 order stamp secret random × (left ≡ cutTray mod257 order stamp secret random)
-zero-one-cut {order} {stamp} {secret} {random} {tray} D bytes =
-    let h = accepted-facts order stamp secret random tray (sym (D .answers)) in
-    let lawful = facts-lawful-terms order stamp (length secret) (h .of-terms) in (
-      record {
-        order-lawful = lawful .0;
-        stamp-lawful = lawful .2;
-        length-lawful = lawful .1;
-        constants-below = λ i k. omega (arith, bytes i k);
-        random-size = h .words-lent;
-        random-below = h .words-within;
-      },
-      cut-left D (sym (D .answers)),
-    )
+  one-lent : OneWords mod257 order constants random → length room ≡ each * order .n → LentFacts order constants random each room
+  one-lent W s = record { words-lent = W .random-size; room-lent = s; constants-within = W .constants-below; words-within = W .random-below }
 
--- one cut, with a tray to fill, answers 0 and leaves its tray
-pub one-cut-zero : {order : Order} {stamp number : ℕ} {secret random tray left : List ℕ} → OneCut mod257 order stamp secret random → length tray ≡ 2048 * order .n
-    → CutDone mod257 order stamp secret random tray number left → (number ≡ 0) × (left ≡ cutTray mod257 order stamp secret random)
-one-cut-zero {order} {stamp} {secret = secret} {random} {tray} C s D =
-    let e = facts-accepted order stamp secret random tray (record {
-      of-terms = lawful-terms-facts order stamp (length secret) (C .order-lawful) (C .length-lawful) (C .stamp-lawful);
-      words-lent = C .random-size;
-      tray-lent = s;
-      words-within = C .random-below;
-    }) in
-    (D .answers ∙ e, cut-left D e)
+module _ (order : Order) (stamp : ℕ) (secret random tray : List ℕ) where
+  -- a cut that answers 0 is one cut, and leaves its tray
+  pub zero-one-cut : {left : List ℕ} → CutDone mod257 order stamp secret random tray 0 left
+      → OneCut mod257 order stamp secret random × (left ≡ cutTray mod257 order stamp secret random)
+  zero-one-cut D =
+      let h = accepted-facts order stamp secret random tray (sym (D .answers)) in
+      let lawful = facts-lawful-terms order stamp (length secret) (h .of-terms) in (
+        record { of-words = lent-one order secret random 2048 tray (lawful .0) (lawful .1) (h .of-lent); stamp-lawful = lawful .2 },
+        filled D (sym (D .answers)),
+      )
+
+  -- one cut, with a tray to fill, answers 0 and leaves its tray
+  pub one-cut-zero : {number : ℕ} {left : List ℕ} → OneCut mod257 order stamp secret random → length tray ≡ 2048 * order .n
+      → CutDone mod257 order stamp secret random tray number left → (number ≡ 0) × (left ≡ cutTray mod257 order stamp secret random)
+  one-cut-zero C s D =
+      let W = C .of-words in
+      let e = facts-accepted order stamp secret random tray (record {
+        of-terms = lawful-terms-facts order stamp (length secret) (W .order-lawful) (W .length-lawful) (C .stamp-lawful);
+        of-lent = one-lent order secret random 2048 tray W s;
+      }) in
+      (D .answers ∙ e, filled D e)
+
+module _ (order : Order) (words random rows : List ℕ) where
+  -- a cut of words that answers 0 is one cut, and leaves its rows
+  pub zero-one-words : {left : List ℕ} → WordsDone mod257 order words random rows 0 left
+      → OneWords mod257 order words random × (left ≡ shareRows mod257 order words random)
+  zero-one-words D =
+      let h = accepted-words order words random rows (sym (D .answers)) in
+      (lent-one order words random (length words) rows (facts-lawful-order order (h .of-order)) (simp (passes, h .length-least, h .length-most)) (h .of-lent), filled D (sym (D .answers)))
+
+  -- one cut of words, with rows to fill, answers 0 and leaves its rows
+  pub one-words-zero : {number : ℕ} {left : List ℕ} → OneWords mod257 order words random → length rows ≡ length words * order .n
+      → WordsDone mod257 order words random rows number left → (number ≡ 0) × (left ≡ shareRows mod257 order words random)
+  one-words-zero W s D =
+      let length-right = W .length-lawful in
+      let e = words-accepted order words random rows (record {
+        of-order = lawful-order-facts order (W .order-lawful);
+        length-least = search passed;
+        length-most = search passed;
+        of-lent = one-lent order words random (length words) rows W s;
+      }) in
+      (D .answers ∙ e, filled D e)

@@ -23,10 +23,11 @@ use Rattle.agree.specs.AgreementLaws.{matches-at, matches-holds}
 use Rattle.tray.specs.SlotLaws.{below-slot}
 use Rattle.tray.specs.UsableLaws.{usable-reads}
 use Rattle.agree.specs.Agreement.{Polynomials, matches, constants}
-use Rattle.cut.specs.Cut.{shareWords, cutTray}
+use Rattle.shares.specs.Shares.{shareWords}
+use Rattle.shares.specs.ShareWords.{length-share-words}
+use Rattle.cut.specs.Cut.{cutTray}
 use Rattle.cut.specs.LetterField.{LetterField}
 use Rattle.cut.specs.OneCut.{OneCut, below-cut-tray, read-cut, shares-cut}
-use Rattle.cut.specs.ShareWords.{length-share-words}
 
 -- "For byte i the coefficients of x, x^2, .. x^t are words i*t .. i*t+t-1, and the constant is the byte."
 unfoldable pub cutPolynomials : ℕ → List ℕ → List ℕ → List (List ℕ)
@@ -63,7 +64,7 @@ module _ {O : Ops} (F : LetterField O) {order : Order} {stamp : ℕ} {secret ran
   pub polynomials-cut : Polynomials O (order .t) (length secret) (cutPolynomials (order .t) secret random)
   polynomials-cut = record {
     size = length-cut (order .t) secret random;
-    degree = degree-cut O (order .t) secret random (C .constants-below) (C .random-below) (C .random-size);
+    degree = let W = C .of-words in degree-cut O (order .t) secret random (W .constants-below) (W .random-below) (W .random-size);
   }
 
   module _ (tray : List ℕ) (x : ℕ) (k : KeeperFacts order x) where

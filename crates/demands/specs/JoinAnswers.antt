@@ -22,7 +22,7 @@ pub cut-not-refused : {O : Ops} {order : Order} {stamp : ℕ} {secret random : L
     → (tray room : List ℕ) → length tray ≡ 2048 * order .n → length room ≡ length secret → joinRefusal order stamp (length secret) tray room ≡ 0
 cut-not-refused {order = order} {stamp} {secret} C tray room s s′ =
     facts-accepted order stamp (length secret) tray room (record {
-      of-terms = lawful-terms-facts order stamp (length secret) (C .order-lawful) (C .length-lawful) (C .stamp-lawful);
+      of-terms = lawful-terms-facts order stamp (length secret) (C .of-words .order-lawful) (C .of-words .length-lawful) (C .stamp-lawful);
       tray-lent = s;
       room-lent = s′;
     })

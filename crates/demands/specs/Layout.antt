@@ -18,7 +18,8 @@ use Rattle.header.specs.Head.{headWords}
 use Rattle.header.specs.Order.{lawfulOrder}
 use Rattle.format.specs.Letter.{blocksFor, blockShares, blockBytes, letterBytes}
 use Rattle.tray.specs.Tray.{headFor}
-use Rattle.cut.specs.Cut.{shareWords, letterOf}
+use Rattle.shares.specs.Shares.{shareWords}
+use Rattle.cut.specs.Cut.{letterOf}
 
 -- t=3, f=2, n=14
 abbrev pub order : Order

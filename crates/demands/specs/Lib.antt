@@ -12,7 +12,9 @@ pub mod Hunted
 pub mod Named
 -- "a sound, older stamp went unread": it is read
 pub mod OlderWrite
--- demand 3: t keepers learn nothing of the secret
+-- what a cut of words gives each keeper
+pub mod Rows
+-- demand 3: t keepers learn nothing of the secret, nor of a list of words
 pub mod Secrecy
 -- "Any two results allowed by one promise are proved the same"
 pub mod Same

@@ -50,7 +50,7 @@ module _ {O : Ops} (F : LetterField O) {order : Order} {stamp : ℕ} {secret ran
       → Read O order stamp secret (cutTray O order stamp secret random) tray p
   write-read rest {p} D =
       let this : PickDone O order tray (picked 0 stamp (length secret)) =
-      chosen stamp (length secret) (facts-picked order tray (C .order-lawful) slots) (record { has = joining; rest = rest }) in
+      chosen stamp (length secret) (facts-picked order tray (C .of-words .order-lawful) slots) (record { has = joining; rest = rest }) in
       let same : p ≡ picked 0 stamp (length secret) = pick-same F D this in
       record { names = same; gives = λ room after result s J. gives-right F C A (rw same at J) bytes slots (rw same at s) left }
 

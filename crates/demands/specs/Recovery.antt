@@ -1,8 +1,8 @@
--- Demand 2: of a cut tray, with at most f of its usable slots altered, the join gives the secret or none.
+-- Demand 2: of a cut tray, with at most f of its usable slots altered, the join gives the secret or none; and of a tray of words, some 256.
 -- Assumes nothing.
 use Prim.Native.Nat.{ℕ, _+_, _*_, _≤_, _<_}
 use mathlib.Core.Path.{_≡_, sym, ap, ap₂, _∙_}
-use mathlib.Core.Bool.{Bool, true}
+use mathlib.Core.Bool.{Bool, true, cond}
 use mathlib.Core.List.{List}
 use mathlib.Core.Logic.{⊎-elim}
 use native.Mathlib.Omega.{arith}
@@ -16,11 +16,12 @@ use Rattle.lists.specs.SameBytes.{sameBytes, same-bytes-equal, equal-same-bytes
 use Rattle.lists.specs.SameTest.{same-test, same-and}
 use Rattle.algebra.specs.Field.{Ops}
 use Rattle.field.specs.Modulo.{mod257}
+use Rattle.block.specs.Check.{allAtMost}
 use Rattle.block.specs.AtMostLaws.{below-at-most}
 use Rattle.header.specs.declared.order.Order.{Order}
 use Rattle.header.specs.OrderLaws.{KeeperFacts}
 use Rattle.tray.specs.Tray.{slotOf, usable, usableMany, wordOf}
-use Rattle.agree.specs.Agreement.{matches, agreeing, needed}
+use Rattle.agree.specs.Agreement.{matches, agreeing, needed, Reaches, constants}
 use Rattle.agree.specs.ReachesLaws.{agreeing-same}
 use Rattle.trials.specs.Trials.{trials}
 use Rattle.trials.specs.Within.{within}
@@ -30,17 +31,21 @@ use Rattle.cut.specs.OneCut.{OneCut}
 use Rattle.join.specs.declared.Joined.{Joined}
 use Rattle.join.specs.Join.{answer, hunt, JoinDone}
 use Rattle.join.specs.Lowest.{hunted-within}
-use Rattle.demands.specs.Accepted.{SecretAgreed, Given, zero-agreed, agreed-given}
+use Rattle.demands.specs.Accepted.{SecretAgreed, Tells, Given, zero-agreed, reached-told}
 use Rattle.demands.specs.Altered.{unaltered, unalteredMany, EnoughLeft, AtMostAltered, count-usable}
 use Rattle.demands.specs.JoinAnswers.{cut-not-refused}
 use Rattle.demands.specs.CutPolynomials.{cutPolynomials, constants-cut, polynomials-cut, slot-matches, matches-slot}
 
--- the join gives the secret back: number 0, m, need, the usable keepers whose letters are unaltered, and the secret in the room; of the trials
+-- the join tells of the cut: a number, m, need, the usable keepers whose letters are unaltered, and what is given in the room; of the trials
 -- `unaltered-first` speaks
-pub record GivesBack (order : Order) (stamp : ℕ) (secret cut tray : List ℕ) (result : Joined) (left : List ℕ) : Type 0 where
-  pub answers : result ≡ answer 0 (usableMany order stamp (length secret) tray) (needed (order .t) (order .f) (order .n) (usable order stamp (length secret) tray))
-      (keeperSet (unaltered order stamp (length secret) cut tray) (order .n)) (result .trials)
-  pub leaves : left ≡ secret
+pub record TellsCut (order : Order) (stamp l : ℕ) (cut tray : List ℕ) (number : ℕ) (given : List ℕ) (result : Joined) (left : List ℕ) : Type 0 where
+  pub answers : result ≡ answer number (usableMany order stamp l tray) (needed (order .t) (order .f) (order .n) (usable order stamp l tray))
+      (keeperSet (unaltered order stamp l cut tray) (order .n)) (result .trials)
+  pub leaves : left ≡ given
+
+-- it gives the secret back: number 0, and the secret
+abbrev pub GivesBack : Order → ℕ → List ℕ → List ℕ → List ℕ → Joined → List ℕ → Type 0
+GivesBack order stamp secret cut tray result left = TellsCut order stamp (length secret) cut tray 0 secret result left
 
 module _ {O : Ops} (F : LetterField O) {order : Order} {stamp : ℕ} {secret random tray : List ℕ} (C : OneCut O order stamp secret random)
     (A : AtMostAltered order stamp (length secret) (cutTray O order stamp secret random) tray) where
@@ -71,37 +76,40 @@ module _ {O : Ops} (F : LetterField O) {order : Order} {stamp : ℕ} {secret ran
   all-but-f : usableMany order stamp (length secret) tray ≤ count agrees (from 1 (order .n)) + order .f
   all-but-f = omega (arith, count-usable order stamp (length secret) cut tray (from 1 (order .n)), A .few, count-agrees)
 
-  -- what is left of the cut is agreed on
-  pub cut-agreed : Below 256 secret → EnoughLeft order stamp (length secret) cut tray → SecretAgreed O order stamp (length secret) tray ps
-  cut-agreed bytes many = record {
-    reaches = record {
-      polynomials = polynomials-cut F C;
-      enough = ⊎-elim (λ h. omega (arith, all-but-f)) (λ h. omega (arith, all-but-f, count-agrees)) many;
-    };
-    bytes = rw (constants-cut (order .t) secret random) (below-at-most 255 secret bytes);
+  -- what is left of the cut reaches need, whatever its constants are
+  cut-reaches : EnoughLeft order stamp (length secret) cut tray
+      → Reaches O (order .t) (order .f) (order .n) (usable order stamp (length secret) tray) (wordOf tray (length secret)) (length secret) ps
+  cut-reaches many = record {
+    polynomials = polynomials-cut F C;
+    enough = ⊎-elim (λ h. omega (arith, all-but-f)) (λ h. omega (arith, all-but-f, count-agrees)) many;
   }
 
+  -- and where these are bytes it is agreed on
+  pub cut-agreed : Below 256 secret → EnoughLeft order stamp (length secret) cut tray → SecretAgreed O order stamp (length secret) tray ps
+  cut-agreed bytes many = record { reaches = cut-reaches many; bytes = rw (constants-cut (order .t) secret random) (below-at-most 255 secret bytes) }
+
   module _ {room left : List ℕ} {result : Joined} (D : JoinDone O order stamp (length secret) tray room result left) where
-    given-back : Given O order stamp (length secret) tray ps result left → GivesBack order stamp secret cut tray result left
-    given-back g = record {
+    told-cut : (number : ℕ) (given : List ℕ) → Tells O order stamp (length secret) tray ps number given result left
+        → TellsCut order stamp (length secret) cut tray number given result left
+    told-cut number given g = record {
       answers =
           let set = keeper-set-same agrees (unaltered order stamp (length secret) cut tray) (order .n) (λ x least most. agrees-unaltered x (omega arith)) in
           let tried = sym (ap (λ (r : Joined). r .trials) (g .answers)) in
-          g .answers ∙ ap₂ (answer 0 _ _) set tried;
-      leaves = g .leaves ∙ constants-cut (order .t) secret random;
+          g .answers ∙ ap₂ (answer number _ _) set tried;
+      leaves = g .leaves;
     }
 
     -- a secret that is given was agreed on, by the cut's own polynomials
     given-cut : result .number ≡ 0 → SecretAgreed O order stamp (length secret) tray ps × Given O order stamp (length secret) tray ps result left
     given-cut z =
         let (qs, a, g) = zero-agreed D z in
-        let e = agreeing-same (F .laws) (order .t) (order .n) (keepers-apart F order (C .order-lawful)) (usable order stamp (length secret) tray)
+        let e = agreeing-same (F .laws) (order .t) (order .n) (keepers-apart F order (C .of-words .order-lawful)) (usable order stamp (length secret) tray)
         (wordOf tray (length secret)) (length secret) qs ps (a .reaches .polynomials) (polynomials-cut F C) (omega (arith, a .reaches .enough, all-but-f)) in
         (rw e at a, rw e at g)
 
     -- "The join never gives a wrong secret."
     pub never-wrong : result .number ≡ 0 → GivesBack order stamp secret cut tray result left
-    never-wrong z = given-back (given-cut z .1)
+    never-wrong z = rw (constants-cut (order .t) secret random) at (told-cut 0 (constants ps) (given-cut z .1))
 
     -- the trials counted are the sets up to the first whose letters are all unaltered, where the letters' words are field words
     pub tried-unaltered : ((x : ℕ) → KeeperFacts order x → usable order stamp (length secret) tray x ≡ true → (i : ℕ) → i < length secret → wordOf tray (length secret) x i < O .q)
@@ -110,13 +118,19 @@ module _ {O : Ops} (F : LetterField O) {order : Order} {stamp : ℕ} {secret ran
     tried-unaltered words z =
         let (a, g) = given-cut z in
         ap (λ (r : Joined). r .trials) (g .answers)
-        ∙ sym (hunted-within (F .laws) (keepers-apart F order (C .order-lawful)) (λ x least most. words x (omega arith)) (a .reaches)
+        ∙ sym (hunted-within (F .laws) (keepers-apart F order (C .of-words .order-lawful)) (λ x least most. words x (omega arith)) (a .reaches)
         (unaltered order stamp (length secret) cut tray) (λ x least most. sym (agrees-unaltered x (omega arith))))
+
+    -- where enough is left the cut is told of: given where its constants are bytes; where one is 256, with 8
+    tells-cut : length tray ≡ 2048 * order .n → length room ≡ length secret → EnoughLeft order stamp (length secret) cut tray
+        → TellsCut order stamp (length secret) cut tray (cond (allAtMost 255 secret) 0 8) (cond (allAtMost 255 secret) secret room) result left
+    tells-cut s s′ many =
+        rw (constants-cut (order .t) secret random) at (told-cut _ _ (reached-told F D (cut-not-refused C tray room s s′) ps (cut-reaches many)))
 
     -- "It gives the right one if m is at least t+2f+1, and also for smaller m if at least t+f+1 usable letters are unaltered."
     pub gives-right : Below 256 secret → length tray ≡ 2048 * order .n → length room ≡ length secret → EnoughLeft order stamp (length secret) cut tray
         → GivesBack order stamp secret cut tray result left
-    gives-right bytes s s′ many = given-back (agreed-given F D (cut-not-refused C tray room s s′) ps (cut-agreed bytes many))
+    gives-right bytes s s′ many = rw (below-at-most 255 secret bytes) at (tells-cut s s′ many)
 
 -- The page's case, "modulo the prime 257". What is lent must have its lengths, and the constants be bytes, only where an answer is promised.
 pub demand-2 : {order : Order} {stamp : ℕ} {secret random tray room left : List ℕ} {result : Joined} → OneCut mod257 order stamp secret random
@@ -127,3 +141,13 @@ pub demand-2 : {order : Order} {stamp : ℕ} {secret random tray room left : Lis
     → EnoughLeft order stamp (length secret) (cutTray mod257 order stamp secret random) tray
     → GivesBack order stamp secret (cutTray mod257 order stamp secret random) tray result left)
 demand-2 C A D = (never-wrong mod257-letters C A D, gives-right mod257-letters C A D)
+
+-- The same of words, each of which may be 256: what enough letters agree on is the cut, and where a word of it is 256 the answer is 8, "they
+-- match, but some constant is 256".
+pub demand-2-words : {order : Order} {stamp : ℕ} {words random tray room left : List ℕ} {result : Joined} → OneCut mod257 order stamp words random
+    → AtMostAltered order stamp (length words) (cutTray mod257 order stamp words random) tray
+    → JoinDone mod257 order stamp (length words) tray room result left
+    → length tray ≡ 2048 * order .n → length room ≡ length words → EnoughLeft order stamp (length words) (cutTray mod257 order stamp words random) tray
+    → TellsCut order stamp (length words) (cutTray mod257 order stamp words random) tray
+    (cond (allAtMost 255 words) 0 8) (cond (allAtMost 255 words) words room) result left
+demand-2-words C A D = tells-cut mod257-letters C A D

@@ -1,18 +1,21 @@
--- "Any two results allowed by one promise are proved the same": one theorem for each public call.
+-- "Any two results allowed by one promise are proved the same": one theorem for each public call, and for what other crates may cut.
 -- Assumes nothing.
 use Prim.Native.Nat.{ℕ}
 use mathlib.Core.Path.{_≡_, refl, sym, ap, ap₂, _∙_}
 use mathlib.Core.Bool.{false≢true}
-use mathlib.Core.List.{List, _++_}
+use mathlib.Core.List.{List, _∷_, _++_}
 use mathlib.Core.Logic.{inl, inr}
 use native.Mathlib.Nat.{le-antisymm}
 use native.Mathlib.Omega.{arith}
 use lib.ListN.{length, drop}
 use Rattle.algebra.specs.Field.{Ops}
+use Rattle.algebra.specs.Poly.{eval}
 use Rattle.header.specs.declared.order.Order.{Order}
 use Rattle.header.specs.OrderLaws.{facts-lawful-order}
 use Rattle.format.specs.declared.reader.Reading.{Reading}
 use Rattle.format.specs.Reading.{readOf}
+use Rattle.shares.specs.Fills.{fills-same}
+use Rattle.shares.specs.Words.{WordsDone}
 use Rattle.cut.specs.Cut.{CutDone}
 use Rattle.cut.specs.LetterField.{LetterField, keepers-apart, mod257-letters}
 use Rattle.join.specs.declared.Joined.{Joined}
@@ -38,9 +41,18 @@ pub read-same : (slot : List ℕ) {reading reading′ : Reading} → reading ≡
 read-same slot e e′ = e ∙ sym e′
 
 -- the cut
-pub cut-same : {O : Ops} {order : Order} {stamp number number′ : ℕ} {secret random tray left left′ : List ℕ}
+pub cut-same : (O : Ops) (order : Order) (stamp : ℕ) (secret random tray : List ℕ) {number number′ : ℕ} {left left′ : List ℕ}
     → CutDone O order stamp secret random tray number left → CutDone O order stamp secret random tray number′ left′ → (number ≡ number′) × (left ≡ left′)
-cut-same D D′ = (D .answers ∙ sym (D′ .answers), D .leaves ∙ sym (D′ .leaves))
+cut-same O order stamp secret random tray D D′ = fills-same D D′
+
+-- the cutting of one value, and of a list of words
+pub value-same : (O : Ops) (constant : ℕ) (coefficients : List ℕ) (x : ℕ) {word word′ : ℕ}
+    → word ≡ eval O (constant ∷ coefficients) x → word′ ≡ eval O (constant ∷ coefficients) x → word ≡ word′
+value-same O constant coefficients x e e′ = e ∙ sym e′
+
+pub words-same : (O : Ops) (order : Order) (words random rows : List ℕ) {number number′ : ℕ} {left left′ : List ℕ}
+    → WordsDone O order words random rows number left → WordsDone O order words random rows number′ left′ → (number ≡ number′) × (left ≡ left′)
+words-same O order words random rows D D′ = fills-same D D′
 
 -- the join
 pub join-same : {O : Ops} → LetterField O → {order : Order} {stamp l : ℕ} {tray room left left′ : List ℕ} {result result′ : Joined}

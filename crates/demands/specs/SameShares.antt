@@ -4,6 +4,7 @@
 use Prim.Native.Nat.{ℕ, _*_}
 use mathlib.Core.Path.{_≡_, refl, sym, ap₂, _∙_}
 use mathlib.Core.List.{List, [], _∷_, _++_}
+use mathlib.Core.Logic.{_↔_}
 use native.Mathlib.Omega.{arith}
 use lib.ListN.{length, take, drop, length-append, length-take, length-drop, take-append-drop, drop-of-length-le}
 use lib.Seq.{take-at, drop-at}
@@ -14,13 +15,30 @@ use Rattle.algebra.specs.Field.{Ops, IsField}
 use Rattle.algebra.specs.Points.{Points}
 use Rattle.algebra.specs.Poly.{eval}
 use Rattle.algebra.specs.Secrecy.{Gives, exchange-exactly-one}
-use Rattle.cut.specs.Cut.{shareWords}
+use Rattle.shares.specs.Shares.{shareWords}
 
--- lists of random words for constants′ that give the keepers ks the share words that random gives them for constants
-pub record SameShares (O : Ops) (t : ℕ) (ks constants random constants′ random′ : List ℕ) : Type 0 where
-  pub size : length random′ ≡ length constants′ * t
-  pub below : Below (O .q) random′
-  pub same : (x : ℕ) → In x ks → shareWords O t x constants′ random′ ≡ shareWords O t x constants random
+-- random words for the constants with which each of the keepers ks gets what it has
+pub record GivesSame (O : Ops) (t : ℕ) (ks constants : List ℕ) (gets : List ℕ → ℕ → List ℕ) (has : ℕ → List ℕ) (random : List ℕ) : Type 0 where
+  pub size : length random ≡ length constants * t
+  pub below : Below (O .q) random
+  pub same : (x : ℕ) → In x ks → gets random x ≡ has x
+
+-- those for constants′ that give the keepers the share words that random gives them for constants
+abbrev pub SameShares : Ops → ℕ → List ℕ → List ℕ → List ℕ → List ℕ → List ℕ → Type 0
+SameShares O t ks constants random constants′ random′ =
+    GivesSame O t ks constants′ (λ words x. shareWords O t x constants′ words) (λ x. shareWords O t x constants random) random′
+
+module _ (O : Ops) (t : ℕ) (ks constants : List ℕ) (gets gets′ : List ℕ → ℕ → List ℕ) (has has′ : ℕ → List ℕ) where
+  -- where what a keeper gets in one form tells what it gets in another, and is told by it, exactly one list gives the same in both
+  pub exactly-one-as : ((random : List ℕ) → length random ≡ length constants * t → Below (O .q) random → (x : ℕ) → In x ks → (gets random x ≡ has x) ↔ (gets′ random x ≡ has′ x))
+      → ExactlyOne (GivesSame O t ks constants gets has) → ExactlyOne (GivesSame O t ks constants gets′ has′)
+  exactly-one-as as-good e =
+      let h = e .holds in
+      record {
+        one = e .one;
+        holds = record { size = h .size; below = h .below; same = λ x m. as-good (e .one) (h .size) (h .below) x m .0 (h .same x m) };
+        only = λ other g. e .only other (record { size = g .size; below = g .below; same = λ x m. as-good other (g .size) (g .below) x m .1 (g .same x m) });
+      }
 
 module _ {O : Ops} (F : IsField O) (t : ℕ) (ks : List ℕ) (many : length ks ≡ t) (P : Points (O .q) (0 ∷ ks)) where
   -- one value more
@@ -50,6 +68,7 @@ module _ {O : Ops} (F : IsField O) (t : ℕ) (ks : List ℕ) (many : length ks �
       },
     )
 
+  -- whatever the constants are, one list of random words and no other gives the keepers the share words that other constants gave them
   pub shares-exactly-one : (constants constants′ random : List ℕ) → length constants ≡ length constants′ → Below (O .q) constants′
       → ExactlyOne (SameShares O t ks constants random constants′)
   unfolding shareWords

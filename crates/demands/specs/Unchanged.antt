@@ -10,6 +10,8 @@ use lib.Seq.{drop-at}
 use borrow.Author.Tests.{ne-eqb}
 use Rattle.algebra.specs.Field.{Ops}
 use Rattle.header.specs.declared.order.Order.{Order}
+use Rattle.shares.specs.Fills.{unchanged}
+use Rattle.shares.specs.Words.{WordsDone}
 use Rattle.cut.specs.Cut.{CutDone}
 use Rattle.join.specs.declared.Joined.{Joined}
 use Rattle.join.specs.Join.{Outcome, few, apart, wide, joined, JoinDone, refused, judged}
@@ -22,9 +24,14 @@ use Rattle.report_text.specs.declared.answer.Answered.{Answered}
 use Rattle.report_text.specs.Report.{Reported}
 
 -- the cut's tray
-pub cut-unchanged : {O : Ops} {order : Order} {stamp number : ℕ} {secret random tray left : List ℕ}
+pub cut-unchanged : (O : Ops) (order : Order) (stamp : ℕ) (secret random tray : List ℕ) {number : ℕ} {left : List ℕ}
     → CutDone O order stamp secret random tray number left → (number ≡ 0 → ⊥) → left ≡ tray
-cut-unchanged D wrong = D .leaves ∙ rw (ne-eqb _ 0 (λ e. wrong (D .answers ∙ e)))
+cut-unchanged O order stamp secret random tray D wrong = unchanged D wrong
+
+-- the rows of a cut of words
+pub words-unchanged : (O : Ops) (order : Order) (words random rows : List ℕ) {number : ℕ} {left : List ℕ}
+    → WordsDone O order words random rows number left → (number ≡ 0 → ⊥) → left ≡ rows
+words-unchanged O order words random rows D wrong = unchanged D wrong
 
 outcome-unchanged : {O : Ops} {t f n l : ℕ} {us : ℕ → Bool} {word : ℕ → ℕ → ℕ} {room left : List ℕ} {result : Joined}
     → Outcome O t f n us word l room result left → (result .number ≡ 0 → ⊥) → left ≡ room

@@ -23,10 +23,11 @@ use Rattle.agree.specs.Agreement.{needed}
 use Rattle.trials.specs.Lowest.{all-within}
 use Rattle.trials.specs.Trials.{trials}
 use Rattle.trials.specs.Within.{within}
-use Rattle.cut.specs.Cut.{shareWords, cutTray}
+use Rattle.shares.specs.Shares.{shareWords}
+use Rattle.shares.specs.ShareWords.{below-share-words}
+use Rattle.cut.specs.Cut.{cutTray}
 use Rattle.cut.specs.LetterField.{LetterField}
 use Rattle.cut.specs.OneCut.{OneCut, length-cut-tray, below-cut-tray, read-cut, shares-cut}
-use Rattle.cut.specs.ShareWords.{below-share-words}
 use Rattle.join.specs.declared.Joined.{Joined}
 use Rattle.join.specs.Join.{answer, hunt, JoinDone}
 use Rattle.demands.specs.Altered.{unaltered, AtMostAltered, count-usable}
@@ -64,12 +65,12 @@ module _ {O : Ops} (F : LetterField O) {order : Order} {stamp : ℕ} {secret ran
   first-tried =
       all-within (unaltered order stamp (length secret) cut cut) (chosen (usable order stamp (length secret) cut) (from 1 (order .n))) (order .t + 1)
       (λ x m. let b = from-in 1 (order .n) x (chosen-in (usable order stamp (length secret) cut) (from 1 (order .n)) x m) in unaltered-cut x (omega arith))
-      (omega (arith, length-chosen (usable order stamp (length secret) cut) (from 1 (order .n)), all-usable, lawful-order-facts order (C .order-lawful)))
+      (omega (arith, length-chosen (usable order stamp (length secret) cut) (from 1 (order .n)), all-usable, lawful-order-facts order (C .of-words .order-lawful)))
 
   pub untouched : Below 256 secret → {room left : List ℕ} {result : Joined} → length room ≡ length secret → JoinDone O order stamp (length secret) cut room result left
       → (result ≡ answer 0 (order .n) (order .n - order .f) (keeperSet (λ x. true) (order .n)) 1) × (left ≡ secret)
   untouched bytes s D =
-      let o = lawful-order-facts order (C .order-lawful) in
+      let o = lawful-order-facts order (C .of-words .order-lawful) in
       let g = gives-right F C none-altered D bytes (length-cut-tray F C) s (inl (omega (arith, all-usable, o))) in
       let need : needed (order .t) (order .f) (order .n) (usable order stamp (length secret) cut) ≡ order .n - order .f = omega (arith, all-usable, o) in
       let set = keeper-set-same (unaltered order stamp (length secret) cut cut) (λ x. true) (order .n) (λ x least most. unaltered-cut x (omega arith)) in

@@ -32,7 +32,7 @@ use Rattle.agree.specs.Agreement.{Polynomials, matches, reaching}
 use Rattle.agree.specs.ReachesLaws.{none-reaches}
 use Rattle.trials.specs.Sets.{sets}
 use Rattle.trials.specs.Trials.{trials}
-use Rattle.cut.specs.Cut.{shareWords}
+use Rattle.shares.specs.Shares.{shareWords}
 use Rattle.cut.specs.LetterField.{mod257-letters}
 use Rattle.join.specs.declared.Joined.{Joined}
 use Rattle.join.specs.Join.{answer, joinRefusal, Outcome, few, apart, wide, joined, JoinDone, judged}

@@ -8,7 +8,7 @@ use lib.ListN.{length, take, drop}
 use Rattle.field.specs.Modulo.{mod257}
 use Rattle.cut.specs.LetterLaws.{lent-lawful}
 use Rattle.cut.specs.Letters.{letterFrom}
-use Rattle.cut.proofs.Laying.{length-part, Laying, laying-none, laying-more, laying-done}
+use Rattle.shares.specs.Laying.{length-part, Laying, laying-none, laying-more, laying-done}
 use borrow.Author.Needs.{needs}
 use Rattle.cut.proofs.letters.write_letters.Statement.{statement}
 use Rattle.cut.proofs.letters.write_letters.Tie as tie

@@ -2,12 +2,13 @@
 -- Assumes nothing.
 use Prim.Native.Nat.{_+_, _*_, _≤_}
 use mathlib.Core.Path.{_≡_, sym, _∙_}
-use native.Mathlib.Nat.{mul-le-mul}
 use native.Mathlib.Omega.{arith}
 use lib.ListN.{length}
 use lib.Seq.{length-take-le}
+use Rattle.shares.specs.ColumnLaws.{columns-most}
+use Rattle.shares.specs.Fills.{fills, refuses}
 use Rattle.cut.specs.Cut.{cutNumber}
-use Rattle.cut.specs.CutLaws.{CutFacts, accepted-facts, accepted-done, refused-done}
+use Rattle.cut.specs.CutLaws.{CutFacts, accepted-facts}
 use borrow.Author.Needs.{needs}
 use Rattle.cut.proofs.secret.cut.Statement.{statement}
 use Rattle.cut.proofs.secret.cut.Tie as tie
@@ -23,9 +24,8 @@ facts : (c : tie.Then1)
     → let args = start (c .before) .args in CutFacts (args .o) (args .stamp) (args .secret .now) (args .random .now) (args .tray .now)
 facts c = accepted-facts _ _ _ _ _ (accepted c)
 
--- the longest secret's columns
-most : (c : tie.Then1) → let args = start (c .before) .args in length (args .secret .now) * (args .o .t + 1) ≤ 952 * 8
-most c = let known = facts c in mul-le-mul {n₂ = 952} {m₂ = 8} (known .of-terms .length-most) (omega arith)
+most : (c : tie.Then1) → let args = start (c .before) .args in length (args .secret .now) * (args .o .t + 1) ≤ 7616
+most c = let known = facts c .of-terms in columns-most _ _ (known .length-most) (known .of-order .t-most)
 
 refusal-requires : tie.Need-refusal-requires
 refusal-requires c κs = search needs
@@ -60,13 +60,13 @@ returns : tie.Need-returns
 returns c =
     let filled = c .before .before .before .before in
     let then = filled .before .before .before .before .before in
-    accepted-done _ _ _ _ _ _ _ (then .before .refusal .ensures) _ (then .if1 .taken) (filled .fill .ensures)
+    fills (then .before .refusal .ensures) (then .if1 .taken) (filled .fill .ensures)
 
 same-length-2 : tie.Need-same-length-2
 same-length-2 c = search needs
 
 returns-2 : tie.Need-returns-2
-returns-2 c = refused-done _ _ _ _ _ _ _ (c .before .refusal .ensures) (c .if1 .left)
+returns-2 c = refuses (c .before .refusal .ensures) (c .if1 .left)
 
 pub cut-spec : {M : Type 1} → statement M
 cut-spec =

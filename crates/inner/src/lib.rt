@@ -1,0 +1,35 @@
+// Calls for the tests alone: functions that other crates can call, and C cannot. The library has them inside and does not offer them.
+ghost use mathlib.Core.Path.{_≡_};
+ghost use mathlib.Core.List.{_∷_};
+ghost use Rattle.algebra.specs.Poly.{eval};
+ghost use Rattle.field.specs.Modulo.{mod257};
+ghost use Rattle.shares.specs.Words.{WordsDone};
+use header::order::Order;
+use shares::value::share_word;
+use shares::words::cut;
+
+#[no_mangle]
+pub extern "C" fn inner_cut_words(
+    t: u32,
+    f: u32,
+    n: u32,
+    constants: &[u16],
+    random: &[u16],
+    rows: &mut [u16],
+) -> u32
+    ensures { λ r. ⌜ WordsDone mod257 (record { t = t; f = f; n = n }) (now (constants .entry)) (now (random .entry)) (now (rows .entry)) r (now (rows .exit)) ⌝ }
+{
+    let o = Order {
+        t: t as usize,
+        f: f as usize,
+        n: n as usize,
+    };
+    cut(o, constants, random, rows)
+}
+
+#[no_mangle]
+pub extern "C" fn inner_share_word(constant: u16, coefficients: &[u16], x: u16) -> u16
+    ensures { λ r. ⌜ r ≡ eval mod257 (constant ∷ now (coefficients .entry)) x ⌝ }
+{
+    share_word(constant, coefficients, x)
+}

@@ -1,0 +1,13 @@
+pub mod ColumnLaws
+pub mod Columns
+pub mod Fills
+pub mod Horner
+pub mod Laying
+pub mod Lent
+pub mod LentLaws
+pub mod OneWords
+pub mod RowLaws
+pub mod Shares
+pub mod ShareWords
+pub mod Words
+pub mod WordsLaws
