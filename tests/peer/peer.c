@@ -8,6 +8,11 @@
 long read(int file, void *bytes, size_t count);
 long write(int file, const void *bytes, size_t count);
 
+/* Of crates/inner: functions inside the library, and not among its calls. */
+uint32_t inner_cut_words(uint32_t t, uint32_t f, uint32_t n, const uint16_t *constants, size_t count,
+                         const uint16_t *random, size_t random_count, uint16_t *rows, size_t room);
+uint16_t inner_share_word(uint16_t constant, const uint16_t *coefficients, size_t count, uint16_t x);
+
 enum { NUMBERS = 5, PARTS = 3, RESULTS = 8, GUARD = 64, GUARD_BYTE = 0xa5, LARGEST = 1 << 18 };
 
 static struct {
@@ -117,6 +122,15 @@ static int answer(void) {
         return 1;
     case 5: answer_pick(number, first, size[0]); return 1;
     case 6: answer_compare(number, first, second, (cs_difference *)third, size); return 1;
+    case 7:
+        result[0] = inner_cut_words(number[0], number[1], number[2], (const uint16_t *)first,
+                                    size[0] / 2, (const uint16_t *)second, size[1] / 2,
+                                    (uint16_t *)third, size[2] / 2);
+        return 1;
+    case 8:
+        result[0] = inner_share_word((uint16_t)number[0], (const uint16_t *)first, size[0] / 2,
+                                     (uint16_t)number[1]);
+        return 1;
     default: return 0;
     }
 }

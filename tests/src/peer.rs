@@ -137,11 +137,38 @@ impl Peer {
         random: &[u16],
         tray: &mut [u8],
     ) -> u32 {
-        let random: Vec<u8> = random.iter().flat_map(|word| word.to_le_bytes()).collect();
+        let random = word_bytes(random);
         let numbers = [order.t, order.f, order.n, stamp];
         let Reply { numbers, left } = self.call(1, &numbers, &[secret, &random, tray]);
         assert!(left[0] == secret && left[1] == random, "both are only lent to be read");
         tray.copy_from_slice(&left[2]);
+        numbers[0]
+    }
+
+    /// The cut of words, which the library has inside and `crates/inner` hands out.
+    pub fn cut_words(
+        &mut self,
+        order: Order,
+        constants: &[u16],
+        random: &[u16],
+        rows: &mut [u16],
+    ) -> u32 {
+        let [constants, random, room] = [constants, random, &*rows].map(word_bytes);
+        let numbers = [order.t, order.f, order.n];
+        let Reply { numbers, left } = self.call(7, &numbers, &[&constants, &random, &room]);
+        assert!(left[0] == constants && left[1] == random, "both are only lent to be read");
+        for (word, bytes) in rows.iter_mut().zip(left[2].chunks(2)) {
+            *word = u16::from_le_bytes([bytes[0], bytes[1]]);
+        }
+        numbers[0]
+    }
+
+    /// The cutting of one value, for one keeper; likewise inside.
+    pub fn share_word(&mut self, constant: u16, coefficients: &[u16], x: u16) -> u32 {
+        let coefficients = word_bytes(coefficients);
+        let numbers = [u32::from(constant), u32::from(x)];
+        let Reply { numbers, left } = self.call(8, &numbers, &[&coefficients]);
+        assert!(left[0] == coefficients, "the coefficients are only lent to be read");
         numbers[0]
     }
 
@@ -200,6 +227,11 @@ impl Peer {
         let [number, count, ..] = numbers;
         Compared { number, count }
     }
+}
+
+/// The bytes of words, as C has them on x86-64.
+fn word_bytes(words: &[u16]) -> Vec<u8> {
+    words.iter().flat_map(|word| word.to_le_bytes()).collect()
 }
 
 /// The bytes of a place in a list, as C has them on x86-64.
