@@ -9,9 +9,9 @@ use Rattle.algebra.specs.Field.{Ops}
 use Rattle.header.specs.declared.order.Order.{Order}
 use Rattle.header.specs.Order.{lawfulOrder}
 use Rattle.header.specs.Terms.{lawfulLength}
-use Rattle.shares.specs.Shares.{shareWords}
 use Rattle.shares.specs.Fills.{Fills}
 use Rattle.shares.specs.Lent.{lentNumber}
+use Rattle.shares.specs.Shares.{shareWords}
 
 -- the rows of keepers 1..n, end to end: each keeper's share words, of these constants
 unfoldable pub shareRows : Ops → Order → List ℕ → List ℕ → List ℕ

@@ -3,20 +3,19 @@
 use Prim.Native.Nat.{ℕ, suc, _-_, _*_, _≤_}
 use mathlib.Core.Path.{_≡_, _∙_}
 use mathlib.Core.List.{List}
-use native.Mathlib.Nat.{mul-comm}
 use native.Mathlib.Omega.{arith}
 use lib.ListN.{length}
-use Rattle.lists.specs.Pieces.{pieces, length-pieces, part-pieces, pieces-same}
+use Rattle.lists.specs.Pieces.{pieces, part-pieces, pieces-same}
 use Rattle.algebra.specs.Field.{Ops}
 use Rattle.header.specs.declared.order.Order.{Order}
 use Rattle.header.specs.Order.{lawfulOrder}
 use Rattle.header.specs.OrderLaws.{OrderFacts, KeeperFacts, lawful-order-facts, facts-lawful-order}
 use Rattle.header.specs.Passing.{passed, passes, passing}
 use Rattle.header.specs.Terms.{lawfulLength}
-use Rattle.shares.specs.Shares.{shareWords}
 use Rattle.shares.specs.Columns.{columnsOf, valuesFrom}
 use Rattle.shares.specs.ColumnLaws.{values-shares}
 use Rattle.shares.specs.LentLaws.{LentFacts, lent-facts, facts-lent}
+use Rattle.shares.specs.Shares.{shareWords}
 use Rattle.shares.specs.ShareWords.{length-share-words}
 use Rattle.shares.specs.Words.{shareRows, rowOf, wordsNumber}
 
@@ -52,19 +51,12 @@ unfolding shareRows
 laid-rows O order constants random columns left laid size written =
     written ∙ pieces-same _ _ (order .n) (λ k h. rw laid (values-shares (order .t) constants random size O (suc k)))
 
-module _ (O : Ops) (order : Order) (constants random : List ℕ) where
-  pub length-rows : length (shareRows O order constants random) ≡ length constants * order .n
-  unfolding shareRows
-  length-rows =
-      length-pieces (length constants) (λ k. shareWords O (order .t) (suc k) constants random) (order .n)
-      (λ k h. length-share-words O (order .t) (suc k) constants random)
-      ∙ mul-comm (order .n) (length constants)
-
-  -- each keeper's row has its share words
-  pub row-shares : (x : ℕ) → KeeperFacts order x → rowOf (shareRows O order constants random) (length constants) x ≡ shareWords O (order .t) x constants random
-  unfolding shareRows rowOf
-  row-shares x k =
-      let e : suc (x - 1) ≡ x = omega arith in
-      part-pieces (length constants) (λ k. shareWords O (order .t) (suc k) constants random) (order .n)
-      (λ k h. length-share-words O (order .t) (suc k) constants random) (x - 1) (omega arith)
-      ∙ rw e
+-- each keeper's row has its share words
+pub row-shares : (O : Ops) (order : Order) (constants random : List ℕ) (x : ℕ) → KeeperFacts order x
+    → rowOf (shareRows O order constants random) (length constants) x ≡ shareWords O (order .t) x constants random
+unfolding shareRows rowOf
+row-shares O order constants random x k =
+    let e : suc (x - 1) ≡ x = omega arith in
+    part-pieces (length constants) (λ k. shareWords O (order .t) (suc k) constants random) (order .n)
+    (λ k h. length-share-words O (order .t) (suc k) constants random) (x - 1) (omega arith)
+    ∙ rw e
