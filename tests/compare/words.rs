@@ -1,5 +1,5 @@
-//! The cut of words, and the cutting of one, beside the second program's. Both are functions inside the
-//! library, so they are called through `crates/inner`.
+//! The cut of words, and the cutting of one, beside the second program's. Both are functions for other
+//! crates, and C has them through `crates/inner` alone.
 
 use second::cases::{self, Tray, FAR, LENGTHS};
 use second::cut::cut_words;
@@ -144,7 +144,7 @@ fn the_edges_of_order_and_length() {
             }
         }
     }
-    cutters.tally.expect(200, &[0, 1, 2]);
+    cutters.tally.expect(252, &[0, 1, 2]);
 }
 
 #[test]
@@ -241,7 +241,7 @@ fn bytes_cut_as_words() {
     cutters.tally.expect(162, &[0]);
 }
 
-/// A keeper's share words cut in their turn: any t+1 rows give them back, 256 too.
+/// A keeper's share words cut in their turn: t+1 rows, drawn anew for each order, give them back, 256 too.
 #[test]
 fn share_words_cut_again() {
     let (random, mut cutters) = (&Random::new(91), Cutters::start());
@@ -282,7 +282,7 @@ fn one_random_word_for_each_constant() {
             }
         }
     }
-    cutters.tally.expect(90, &[0]);
+    cutters.tally.expect(130, &[0]);
 }
 
 /// The value at x term by term, with no rule of Horner's.

@@ -8,7 +8,7 @@
 long read(int file, void *bytes, size_t count);
 long write(int file, const void *bytes, size_t count);
 
-/* Of crates/inner: functions inside the library, and not among its calls. */
+/* Of crates/inner: functions that other crates can call, and that the library does not have. */
 uint32_t inner_cut_words(uint32_t t, uint32_t f, uint32_t n, const uint16_t *constants, size_t count,
                          const uint16_t *random, size_t random_count, uint16_t *rows, size_t room);
 uint16_t inner_share_word(uint16_t constant, const uint16_t *coefficients, size_t count, uint16_t x);

@@ -145,7 +145,7 @@ impl Peer {
         numbers[0]
     }
 
-    /// The cut of words, which the library has inside and `crates/inner` hands out.
+    /// The cut of words: a function for other crates, which `crates/inner` hands to C.
     pub fn cut_words(
         &mut self,
         order: Order,
@@ -163,7 +163,7 @@ impl Peer {
         numbers[0]
     }
 
-    /// The cutting of one value, for one keeper; likewise inside.
+    /// The cutting of one value, for one keeper, by the same way.
     pub fn share_word(&mut self, constant: u16, coefficients: &[u16], x: u16) -> u32 {
         let coefficients = word_bytes(coefficients);
         let numbers = [u32::from(constant), u32::from(x)];

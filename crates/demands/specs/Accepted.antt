@@ -1,21 +1,23 @@
 -- When the join gives a secret.
 -- Assumes nothing.
 use Prim.Native.Nat.{ℕ}
-use mathlib.Core.Path.{_≡_, refl, ap}
+use mathlib.Core.Path.{_≡_, sym, ap, _∙_}
 use mathlib.Core.Bool.{true, cond}
 use mathlib.Core.List.{List}
-use mathlib.Core.Logic.{_↔_}
+use mathlib.Core.Logic.{_⊎_, inl, inr, _↔_}
 use native.Mathlib.Omega.{arith}
 use Rattle.lists.specs.KeeperSet.{keeperSet}
 use Rattle.algebra.specs.Field.{Ops}
 use Rattle.block.specs.Check.{allAtMost}
 use Rattle.header.specs.declared.order.Order.{Order}
+use Rattle.header.specs.Passing.{passing}
 use Rattle.tray.specs.Tray.{usable, usableMany, wordOf}
 use Rattle.agree.specs.Agreement.{agreeing, needed, Reaches, constants}
 use Rattle.cut.specs.LetterField.{LetterField, keepers-apart}
 use Rattle.join.specs.declared.Joined.{Joined}
 use Rattle.join.specs.Join.{answer, hunted, joinRefusal, JoinDone, refused, judged, few, apart, wide, joined}
 use Rattle.join.specs.OutcomeLaws.{reaches-outcome}
+use Rattle.join.specs.RefusalLaws.{refusal-most}
 use Rattle.demands.specs.JoinAnswers.{not-refused-order}
 
 -- polynomials that reach need among the usable letters, and whose constants are bytes
@@ -34,14 +36,27 @@ pub record Tells (O : Ops) (order : Order) (stamp l : ℕ) (tray : List ℕ) (ps
 abbrev pub Given : Ops → Order → ℕ → ℕ → List ℕ → List (List ℕ) → Joined → List ℕ → Type 0
 Given O order stamp l tray ps result left = Tells O order stamp l tray ps 0 (constants ps) result left
 
+-- what is told of with 0 or 8 reaches need, and 8 says that a constant of it is 256
+pub told-reached : {O : Ops} {order : Order} {stamp l : ℕ} {tray room left : List ℕ} {result : Joined} → JoinDone O order stamp l tray room result left
+    → (result .number ≡ 0) ⊎ (result .number ≡ 8)
+    → (ps : List (List ℕ)) × Reaches O (order .t) (order .f) (order .n) (usable order stamp l tray) (wordOf tray l) l ps
+    × Tells O order stamp l tray ps (cond (allAtMost 255 (constants ps)) 0 8) (cond (allAtMost 255 (constants ps)) (constants ps) room) result left
+told-reached (refused h) (inl z) = absurd (h z)
+told-reached {O} {order} {stamp} {l} {tray} {room} (refused h) (inr z) = absurd (omega (arith, refusal-most order stamp l tray room))
+told-reached (judged e (few h)) (inl z) = absurd (omega arith)
+told-reached (judged e (few h)) (inr z) = absurd (omega arith)
+told-reached (judged e (apart h none)) (inl z) = absurd (omega arith)
+told-reached (judged e (apart h none)) (inr z) = absurd (omega arith)
+told-reached (judged e (wide ps R b)) z = (ps, R, record { answers = rw b; leaves = rw b })
+told-reached (judged e (joined ps R b)) z = (ps, R, record { answers = rw b; leaves = rw b })
+
 -- a secret that is given was agreed on
 pub zero-agreed : {O : Ops} {order : Order} {stamp l : ℕ} {tray room left : List ℕ} {result : Joined} → JoinDone O order stamp l tray room result left
     → result .number ≡ 0 → (ps : List (List ℕ)) × SecretAgreed O order stamp l tray ps × Given O order stamp l tray ps result left
-zero-agreed (refused h) z = absurd (h z)
-zero-agreed (judged e (few h)) z = absurd (omega arith)
-zero-agreed (judged e (apart h none)) z = absurd (omega arith)
-zero-agreed (judged e (wide ps R b)) z = absurd (omega arith)
-zero-agreed (judged e (joined ps R b)) z = (ps, record { reaches = R; bytes = b }, record { answers = refl; leaves = refl })
+zero-agreed D z =
+    let (ps, R, g) = told-reached D (inl z) in
+    let bytes = passing (allAtMost 255 (constants ps)) 0 7 (sym (ap (λ (r : Joined). r .number) (g .answers)) ∙ z) .0 in
+    (ps, record { reaches = R; bytes = bytes }, rw bytes at g)
 
 -- polynomials that reach need are told of: given where their constants are bytes; where one is 256, with 8, and the room is left
 pub reached-told : {O : Ops} → LetterField O → {order : Order} {stamp l : ℕ} {tray room left : List ℕ} {result : Joined}

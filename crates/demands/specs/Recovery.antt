@@ -4,7 +4,7 @@ use Prim.Native.Nat.{ℕ, _+_, _*_, _≤_, _<_}
 use mathlib.Core.Path.{_≡_, sym, ap, ap₂, _∙_}
 use mathlib.Core.Bool.{Bool, true, cond}
 use mathlib.Core.List.{List}
-use mathlib.Core.Logic.{⊎-elim}
+use mathlib.Core.Logic.{_⊎_, ⊎-elim}
 use native.Mathlib.Omega.{arith}
 use lib.ListN.{length}
 use Rattle.lists.specs.Below.{Below}
@@ -31,13 +31,13 @@ use Rattle.cut.specs.OneCut.{OneCut}
 use Rattle.join.specs.declared.Joined.{Joined}
 use Rattle.join.specs.Join.{answer, hunt, JoinDone}
 use Rattle.join.specs.Lowest.{hunted-within}
-use Rattle.demands.specs.Accepted.{SecretAgreed, Tells, Given, zero-agreed, reached-told}
+use Rattle.demands.specs.Accepted.{SecretAgreed, Tells, Given, told-reached, zero-agreed, reached-told}
 use Rattle.demands.specs.Altered.{unaltered, unalteredMany, EnoughLeft, AtMostAltered, count-usable}
 use Rattle.demands.specs.JoinAnswers.{cut-not-refused}
 use Rattle.demands.specs.CutPolynomials.{cutPolynomials, constants-cut, polynomials-cut, slot-matches, matches-slot}
 
 -- the join tells of the cut: a number, m, need, the usable keepers whose letters are unaltered, and what is given in the room; of the trials
--- `unaltered-first` speaks
+-- `lowest-first` speaks, and with 0 `unaltered-first`
 pub record TellsCut (order : Order) (stamp l : ℕ) (cut tray : List ℕ) (number : ℕ) (given : List ℕ) (result : Joined) (left : List ℕ) : Type 0 where
   pub answers : result ≡ answer number (usableMany order stamp l tray) (needed (order .t) (order .f) (order .n) (usable order stamp l tray))
       (keeperSet (unaltered order stamp l cut tray) (order .n)) (result .trials)
@@ -88,6 +88,12 @@ module _ {O : Ops} (F : LetterField O) {order : Order} {stamp : ℕ} {secret ran
   pub cut-agreed : Below 256 secret → EnoughLeft order stamp (length secret) cut tray → SecretAgreed O order stamp (length secret) tray ps
   cut-agreed bytes many = record { reaches = cut-reaches many; bytes = rw (constants-cut (order .t) secret random) (below-at-most 255 secret bytes) }
 
+  -- what reaches need is the cut
+  reached-cut : (qs : List (List ℕ)) → Reaches O (order .t) (order .f) (order .n) (usable order stamp (length secret) tray) (wordOf tray (length secret)) (length secret) qs → qs ≡ ps
+  reached-cut qs R =
+      agreeing-same (F .laws) (order .t) (order .n) (keepers-apart F order (C .of-words .order-lawful)) (usable order stamp (length secret) tray)
+      (wordOf tray (length secret)) (length secret) qs ps (R .polynomials) (polynomials-cut F C) (omega (arith, R .enough, all-but-f))
+
   module _ {room left : List ℕ} {result : Joined} (D : JoinDone O order stamp (length secret) tray room result left) where
     told-cut : (number : ℕ) (given : List ℕ) → Tells O order stamp (length secret) tray ps number given result left
         → TellsCut order stamp (length secret) cut tray number given result left
@@ -103,8 +109,7 @@ module _ {O : Ops} (F : LetterField O) {order : Order} {stamp : ℕ} {secret ran
     given-cut : result .number ≡ 0 → SecretAgreed O order stamp (length secret) tray ps × Given O order stamp (length secret) tray ps result left
     given-cut z =
         let (qs, a, g) = zero-agreed D z in
-        let e = agreeing-same (F .laws) (order .t) (order .n) (keepers-apart F order (C .of-words .order-lawful)) (usable order stamp (length secret) tray)
-        (wordOf tray (length secret)) (length secret) qs ps (a .reaches .polynomials) (polynomials-cut F C) (omega (arith, a .reaches .enough, all-but-f)) in
+        let e = reached-cut qs (a .reaches) in
         (rw e at a, rw e at g)
 
     -- "The join never gives a wrong secret."
@@ -120,6 +125,13 @@ module _ {O : Ops} (F : LetterField O) {order : Order} {stamp : ℕ} {secret ran
         ap (λ (r : Joined). r .trials) (g .answers)
         ∙ sym (hunted-within (F .laws) (keepers-apart F order (C .of-words .order-lawful)) (λ x least most. words x (omega arith)) (a .reaches)
         (unaltered order stamp (length secret) cut tray) (λ x least most. sym (agrees-unaltered x (omega arith))))
+
+    -- what is told of with 0 or 8 is the cut
+    never-other : (result .number ≡ 0) ⊎ (result .number ≡ 8)
+        → TellsCut order stamp (length secret) cut tray (cond (allAtMost 255 secret) 0 8) (cond (allAtMost 255 secret) secret room) result left
+    never-other z =
+        let (qs, R, g) = told-reached D z in
+        rw (constants-cut (order .t) secret random) at (told-cut _ _ (rw (reached-cut qs R) at g))
 
     -- where enough is left the cut is told of: given where its constants are bytes; where one is 256, with 8
     tells-cut : length tray ≡ 2048 * order .n → length room ≡ length secret → EnoughLeft order stamp (length secret) cut tray
@@ -142,12 +154,13 @@ pub demand-2 : {order : Order} {stamp : ℕ} {secret random tray room left : Lis
     → GivesBack order stamp secret (cutTray mod257 order stamp secret random) tray result left)
 demand-2 C A D = (never-wrong mod257-letters C A D, gives-right mod257-letters C A D)
 
--- The same of words, each of which may be 256: what enough letters agree on is the cut, and where a word of it is 256 the answer is 8, "they
--- match, but some constant is 256".
+-- The same of words, each of which may be 256. Where 0 or 8 is answered, and where enough is left, the cut is told of: given where all its words are bytes;
+-- where one is 256, with 8, "they match, but some constant is 256".
 pub demand-2-words : {order : Order} {stamp : ℕ} {words random tray room left : List ℕ} {result : Joined} → OneCut mod257 order stamp words random
     → AtMostAltered order stamp (length words) (cutTray mod257 order stamp words random) tray
     → JoinDone mod257 order stamp (length words) tray room result left
-    → length tray ≡ 2048 * order .n → length room ≡ length words → EnoughLeft order stamp (length words) (cutTray mod257 order stamp words random) tray
+    → ((result .number ≡ 0) ⊎ (result .number ≡ 8))
+    ⊎ ((length tray ≡ 2048 * order .n) × (length room ≡ length words) × EnoughLeft order stamp (length words) (cutTray mod257 order stamp words random) tray)
     → TellsCut order stamp (length words) (cutTray mod257 order stamp words random) tray
     (cond (allAtMost 255 words) 0 8) (cond (allAtMost 255 words) words room) result left
-demand-2-words C A D = tells-cut mod257-letters C A D
+demand-2-words C A D = ⊎-elim (never-other mod257-letters C A D) (λ h. tells-cut mod257-letters C A D (h .0) (h .1) (h .2))

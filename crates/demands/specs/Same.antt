@@ -45,11 +45,12 @@ pub cut-same : (O : Ops) (order : Order) (stamp : ℕ) (secret random tray : Lis
     → CutDone O order stamp secret random tray number left → CutDone O order stamp secret random tray number′ left′ → (number ≡ number′) × (left ≡ left′)
 cut-same O order stamp secret random tray D D′ = fills-same D D′
 
--- the cutting of one value, and of a list of words
+-- the cutting of one value
 pub value-same : (O : Ops) (constant : ℕ) (coefficients : List ℕ) (x : ℕ) {word word′ : ℕ}
     → word ≡ eval O (constant ∷ coefficients) x → word′ ≡ eval O (constant ∷ coefficients) x → word ≡ word′
 value-same O constant coefficients x e e′ = e ∙ sym e′
 
+-- the cut of a list of words
 pub words-same : (O : Ops) (order : Order) (words random rows : List ℕ) {number number′ : ℕ} {left left′ : List ℕ}
     → WordsDone O order words random rows number left → WordsDone O order words random rows number′ left′ → (number ≡ number′) × (left ≡ left′)
 words-same O order words random rows D D′ = fills-same D D′

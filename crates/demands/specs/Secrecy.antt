@@ -1,4 +1,4 @@
--- Demand 3: t keepers together learn nothing of the secret but its length, nor of any list of words that is cut.
+-- Demand 3: t keepers together learn nothing but the length of the secret, or of the list of words, that is cut.
 -- Assumes nothing.
 use Prim.Native.Nat.{ℕ, _*_}
 use mathlib.Core.Path.{_≡_, sym}

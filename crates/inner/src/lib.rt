@@ -1,4 +1,4 @@
-// Calls for the tests alone: functions that other crates can call, and C cannot. The library has them inside and does not offer them.
+// Calls for the tests alone, of functions that other crates can call and C cannot. The library that C gets does not have them.
 ghost use mathlib.Core.Path.{_≡_};
 ghost use mathlib.Core.List.{_∷_};
 ghost use Rattle.algebra.specs.Poly.{eval};

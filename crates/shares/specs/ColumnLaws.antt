@@ -17,7 +17,7 @@ use Rattle.shares.specs.Columns.{columnOf, columnsOf, across, valuesFrom
 use Rattle.shares.specs.RowLaws.{getD-part}
 use Rattle.shares.specs.ShareWords.{polynomialOf, share-words-listed}
 
--- word j of the words of byte i is one of the random words
+-- word j of the words of constant i is one of the random words
 pub word-within : (l t i j : ℕ) → i < l → j < t → i * t + j < l * t
 word-within l t i j hi hj = omega (arith, mul-le-mul-right t hi)
 

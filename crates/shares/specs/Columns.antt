@@ -1,4 +1,4 @@
--- The cut's coefficients in columns, one for each power of x, each as long as the secret: keepers' values are then taken a whole row at a time.
+-- The cut's coefficients in columns, one for each power of x, as long as the constants: keepers' values are then taken a whole row at a time.
 -- Assumes nothing.
 use Prim.Native.Nat.{ℕ, zero, suc, _+_, _*_}
 use mathlib.Core.List.{List}

@@ -1,4 +1,4 @@
--- Pieces of one size that a loop lays end to end, each into a part lent for it: columns side by side, slots in a tray.
+-- Pieces of one size that a loop lays end to end, each into a part lent for it: columns side by side, rows, slots in a tray.
 -- Assumes nothing.
 use Prim.Native.Nat.{ℕ, _+_, _-_, _*_, _≤_}
 use mathlib.Core.Path.{_≡_, sym, _∙_}
