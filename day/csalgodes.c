@@ -74,16 +74,17 @@ static void save_tray(order o, const char *folder) {
     for (uint32_t i = 0; i < o.n; i++) save(slot_path(folder, i + 1), tray + i * CS_SLOT, CS_SLOT);
 }
 
-/* T F N STAMP SECRET TRAY */
+/* T F N KEY STAMP SECRET TRAY */
 static answer cut(char **word) {
     order o = order_in(word);
-    size_t length = load(word[4], secret, sizeof secret);
+    uint32_t key = number_in(word[3]), stamp = number_in(word[4]);
+    size_t length = load(word[5], secret, sizeof secret);
     /* a t or a length that is refused in any case needs no random words */
     size_t count = o.t <= CS_GREATEST_T && length <= CS_LONGEST_SECRET ? o.t * length : 0;
     draw_words(random_words, count);
-    uint32_t number = cs_cut(o.t, o.f, o.n, number_in(word[3]), secret, length, random_words, count,
-                             tray, slots_of(o) * CS_SLOT);
-    if (number == 0) save_tray(o, word[5]);
+    uint32_t number = cs_cut(o.t, o.f, o.n, key, stamp, secret, length, random_words, count, tray,
+                             slots_of(o) * CS_SLOT);
+    if (number == 0) save_tray(o, word[6]);
     return (answer){.number = number};
 }
 
@@ -91,37 +92,40 @@ static answer cut(char **word) {
 static answer read_slot(char **word) {
     cs_read_result r = cs_read(slot, load(word[0], slot, sizeof slot));
     if (r.number == 0) {
-        say("order %u %u %u keeper %u stamp %u length %u\n", r.t, r.f, r.n, r.keeper, r.stamp,
-            r.length);
+        say("order %u %u %u key %u keeper %u stamp %u length %u\n", r.t, r.f, r.n, r.key, r.keeper,
+            r.stamp, r.length);
     }
     return (answer){.number = r.number, .place = r.place};
 }
 
-/* T F N KEEPER HELD LETTER */
+/* T F N KEY KEEPER HELD LETTER */
 static answer store(char **word) {
     order o = order_in(word);
-    size_t held_length = load(word[4], slot, sizeof slot);
-    size_t letter_length = load(word[5], letter, sizeof letter);
-    cs_store_result r = cs_store(o.t, o.f, o.n, number_in(word[3]), slot, held_length, letter,
+    uint32_t key = number_in(word[3]), keeper = number_in(word[4]);
+    size_t held_length = load(word[5], slot, sizeof slot);
+    size_t letter_length = load(word[6], letter, sizeof letter);
+    cs_store_result r = cs_store(o.t, o.f, o.n, key, keeper, slot, held_length, letter,
                                  letter_length);
-    if (r.number == 0) save(word[4], slot, CS_SLOT);
+    if (r.number == 0) save(word[5], slot, CS_SLOT);
     return (answer){.number = r.number, .place = r.place};
 }
 
-/* T F N KEEPER HELD LETTER */
+/* T F N KEY KEEPER HELD LETTER */
 static answer fetch(char **word) {
     order o = order_in(word);
-    size_t held_length = load(word[4], slot, sizeof slot);
-    uint32_t number = cs_fetch(o.t, o.f, o.n, number_in(word[3]), slot, held_length);
-    if (number == 0) save(word[5], slot, CS_SLOT);
+    uint32_t key = number_in(word[3]), keeper = number_in(word[4]);
+    size_t held_length = load(word[5], slot, sizeof slot);
+    uint32_t number = cs_fetch(o.t, o.f, o.n, key, keeper, slot, held_length);
+    if (number == 0) save(word[6], slot, CS_SLOT);
     return (answer){.number = number};
 }
 
-/* T F N TRAY */
+/* T F N KEY TRAY */
 static answer pick(char **word) {
     order o = order_in(word);
-    size_t tray_length = load_tray(o, word[3], tray);
-    cs_pick_result r = cs_pick(o.t, o.f, o.n, tray, tray_length);
+    uint32_t key = number_in(word[3]);
+    size_t tray_length = load_tray(o, word[4], tray);
+    cs_pick_result r = cs_pick(o.t, o.f, o.n, key, tray, tray_length);
     /* a group is named where one is to be joined, and where there are groups and none joins */
     if (r.stamp > 0) say("stamp %u length %u\n", r.stamp, r.length);
     return (answer){.number = r.number};
@@ -148,17 +152,16 @@ static void tell_agreement(order o, cs_join_result r) {
     if (r.trials > 0) tell_trials(o, r);
 }
 
-/* T F N STAMP LENGTH TRAY SECRET */
+/* T F N KEY STAMP LENGTH TRAY SECRET */
 static answer join(char **word) {
     order o = order_in(word);
-    uint32_t length = number_in(word[4]);
+    uint32_t key = number_in(word[3]), stamp = number_in(word[4]), length = number_in(word[5]);
     /* too great a length is answered with 2 whatever the room */
     size_t room = length < CS_LONGEST_SECRET ? length : CS_LONGEST_SECRET;
-    size_t tray_length = load_tray(o, word[5], tray);
-    cs_join_result r = cs_join(o.t, o.f, o.n, number_in(word[3]), length, tray, tray_length, secret,
-                               room);
+    size_t tray_length = load_tray(o, word[6], tray);
+    cs_join_result r = cs_join(o.t, o.f, o.n, key, stamp, length, tray, tray_length, secret, room);
     if (r.need > 0) tell_agreement(o, r);
-    if (r.number == 0) save(word[6], secret, room);
+    if (r.number == 0) save(word[7], secret, room);
     return (answer){.number = r.number};
 }
 
@@ -191,12 +194,12 @@ typedef struct {
 } command;
 
 static const command commands[] = {
-    {"cut", "T F N STAMP SECRET TRAY", 6, cut},
+    {"cut", "T F N KEY STAMP SECRET TRAY", 7, cut},
     {"read", "SLOT", 1, read_slot},
-    {"store", "T F N KEEPER HELD LETTER", 6, store},
-    {"fetch", "T F N KEEPER HELD LETTER", 6, fetch},
-    {"pick", "T F N TRAY", 4, pick},
-    {"join", "T F N STAMP LENGTH TRAY SECRET", 7, join},
+    {"store", "T F N KEY KEEPER HELD LETTER", 7, store},
+    {"fetch", "T F N KEY KEEPER HELD LETTER", 7, fetch},
+    {"pick", "T F N KEY TRAY", 5, pick},
+    {"join", "T F N KEY STAMP LENGTH TRAY SECRET", 8, join},
     {"compare", "T F N BEFORE AFTER", 5, compare},
 };
 
@@ -221,14 +224,18 @@ static void usage(int file) {
 
 static void help(void) {
     usage(1);
-    say("T F N is the order, SLOT, HELD and LETTER are files of 2048 bytes, TRAY, BEFORE and AFTER are\n"
-        "folders of them, named 1 .. N. The status is the answer's number; %d is trouble with a file or\n"
-        "a word. pick names the newest stamp and length that join, and with 7 or 8 the newest that enough\n"
-        "letters have, if none joins. Something newer may have been cut whose letters are missing or do not\n"
-        "match. join's trials say how many sets of T+1 keepers, in dictionary order, a hunt would try: at\n"
-        "most 12870. They do not say how long the join took: they are computed, and no set is tried for them.\n"
-        "compare ends with 0 only where no word differs, and with %d where one does. The words that it prints\n"
-        "are of letters: keep what it says as you keep the letters.\n",
+    say("T F N is the order. KEY is the key's number, 0 .. 255, by which letters of one secret are told from\n"
+        "letters of another; SECRET is the file of its bytes. Take the same KEY for all cuts of a secret, and for\n"
+        "no other, save one that takes its place. Tell a desk always the same T F N KEY KEEPER: a letter held\n"
+        "that has others counts as none, and store replaces it.\n"
+        "SLOT, HELD and LETTER are files of 2048 bytes, TRAY, BEFORE and AFTER are folders of them, named 1 .. N.\n"
+        "The status is the answer's number; %d is trouble with a file or a word.\n"
+        "pick names the newest stamp and length that join, and with 7 or 8 the newest that enough letters have,\n"
+        "if none joins; of other KEYs it says nothing. Something newer may have been cut whose letters are\n"
+        "missing or do not match. join's trials say how many sets of T+1 keepers, in dictionary order, a hunt\n"
+        "would try: at most 12870. They do not say how long the join took: they are computed, and no set is\n"
+        "tried for them. compare ends with 0 only where no word differs, and with %d where one does. The words\n"
+        "that it prints are of letters: keep what it says as you keep the letters.\n",
         TROUBLE, DIFFERENT);
 }
 

@@ -6,12 +6,12 @@
 
 static const char *const words_of[] = {
     "done",
-    "the order is not lawful, or the desk's keeper number is outside 1..n",
+    "the order is not lawful, the key's number is above 255, or the desk's keeper number is outside 1..n",
     "the secret's length is outside 1..952",
     "the stamp is 0",
     "a lent part has the wrong length",
     "a random word is above 256",
-    "fewer than t+f+1 usable letters; for the pick, no group that large",
+    "fewer than t+f+1 usable letters of this order and key; for the pick, no group that large",
     "no polynomials match enough letters; for the pick, in the greatest group, and no other joins",
     "they match, but some constant is 256; for the pick, in the greatest group, and no other joins",
     "a word in a block is above 256",
@@ -21,8 +21,8 @@ static const char *const words_of[] = {
     "bytes or share words past the end aren't zero",
     "older than the letter held",
     "the same stamp as the letter held, other bytes",
-    "a good letter, but not of this desk's order and keeper",
-    "nothing good is held",
+    "a good letter, but not of this desk's order, key and keeper",
+    "nothing good of this desk's order, key and keeper is held",
     "the list has fewer places than there are differences",
 };
 

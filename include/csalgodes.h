@@ -2,27 +2,34 @@
  * Csalgodes: a signing key is cut into letters, and comes back right or not at all.
  *
  * A secret is cut into letters, one for each of n keepers. Later the letters that can still be had are
- * joined. Some may be old, some damaged, up to f of them lies; the secret comes back, or a number says
- * why not. The words that the calls use:
+ * joined. Some may be old, some damaged, some of another key, up to f of them lies; the secret comes back,
+ * or a number says why not. The words that the calls use:
  *
- *    secret   the key, 1..952 bytes.
+ *    secret   what is cut: the bytes of a signing key, 1..952 of them.
  *    keeper   one who keeps a letter. Keepers are numbered 1..n.
  *    t        any t keepers together learn nothing of the secret but its length. t is 1..7.
  *    f        up to so many of the letters joined may be lies. f is 0..t.
  *    n        how many keepers there are, from t+4f+1 to 16.
  *    order    t, f and n together. Whoever cuts, keeps or joins a key is told the same order.
+ *    key      the number of a signing key, 0..255, and not its bytes, which are the secret. By the number
+ *             letters of one secret are told from letters of another: the boot key, say, has 1 and the mirror
+ *             key 2. Whoever cuts chooses it, takes the same for every cut of that secret, and gives it to no
+ *             other, save a new one that takes its place. Whoever keeps or joins letters is told it beside
+ *             the order. It is no secret, and helps against mix-ups alone: a liar can write any number.
+ *             Letters that were cut before version 0.5.0 are letters of key 0.
  *    word     a number 0..256. Sharing counts modulo 257, so a word has one value more than a byte.
- *    letter   what one keeper keeps of one cut: the order, the keeper's number, the stamp, the secret's
- *             length, one share word for each byte of the secret, and check words. These find damage. They
- *             do not stop a liar, who can write good ones. It is 1 to 4 blocks of 512 bytes; the project's
- *             docs/FORMAT.md has every byte.
+ *    letter   what one keeper keeps of one cut: the order, the key's number, the keeper's number, the stamp,
+ *             the secret's length, one share word for each byte of the secret, and check words. These find
+ *             damage. They do not stop a liar, who can write good ones. It is 1 to 4 blocks of 512 bytes; the
+ *             project's docs/FORMAT.md has every byte.
  *    slot     2048 bytes, which hold one letter, or all zeros where there is none.
  *    tray     n slots end to end. Slot x, counted from 1, is keeper x's.
  *    stamp    the number of a cut, 1..4294967295. Whoever cuts chooses it, and takes a greater one for each
- *             new cut of a key: desks keep the greatest and refuse an older. No two cuts may have the
- *             same: nothing else tells their letters apart, and to those of one the others are lies.
+ *             new cut of a key: desks keep the greatest and refuse an older. No two cuts of one key may have
+ *             the same: if order and length are the same too, nothing tells their letters apart, and to those
+ *             of one the others are lies. Cuts of keys with different numbers may have the same stamp.
  *    desk     where a keeper keeps his letter of one key: one slot, all zeros at first, changed by cs_store
- *             alone.
+ *             alone. Who keeps letters of several keys has a desk for each.
  *
  * For C and C++ on x86-64 Linux. A program is built after library/build by the first line, after
  * library/install by the second:
@@ -55,14 +62,14 @@ extern "C" {
  * name has both, so that a program runs with the calls that it was built for or does not start.
  */
 #define CSALGODES_VERSION_MAJOR 0
-#define CSALGODES_VERSION_MINOR 4
+#define CSALGODES_VERSION_MINOR 5
 #define CSALGODES_VERSION_PATCH 0
 
-/* As one number, to be compared: 0.4.0 is 400, and 1.2.3 would be 10203. */
+/* As one number, to be compared: 0.5.0 is 500, and 1.2.3 would be 10203. */
 #define CSALGODES_VERSION \
     (CSALGODES_VERSION_MAJOR * 10000 + CSALGODES_VERSION_MINOR * 100 + CSALGODES_VERSION_PATCH)
 
-/* The sizes, for arrays that hold whatever is lawful. */
+/* The sizes, for arrays that hold whatever is lawful, and the greatest numbers. */
 enum {
     CS_LONGEST_SECRET = 952, /* bytes */
     CS_SLOT = 2048,          /* bytes of a slot, which holds one letter */
@@ -71,6 +78,7 @@ enum {
     CS_LARGEST_TRAY = CS_MOST_KEEPERS * CS_SLOT,                 /* bytes; a tray has n * CS_SLOT */
     CS_MOST_RANDOM_WORDS = CS_GREATEST_T * CS_LONGEST_SECRET,    /* a cut takes t for each byte */
     CS_GREATEST_WORD = 256,  /* of random words, as of any */
+    CS_GREATEST_KEY = 255,   /* of the keys' numbers, which begin with 0 */
     CS_MOST_DIFFERENCES = CS_LARGEST_TRAY / 2                    /* every word of two trays */
 };
 
@@ -80,7 +88,8 @@ enum {
  */
 enum {
     CS_DONE = 0,
-    CS_ORDER_UNLAWFUL = 1,      /* the order is not lawful, or the desk's keeper number is outside 1..n */
+    CS_ORDER_UNLAWFUL = 1,      /* the order is not lawful, the key's number is above 255, or the desk's
+                                   keeper number is outside 1..n */
     CS_LENGTH_OUT_OF_RANGE = 2, /* the secret's length is outside 1..952 */
     CS_STAMP_ZERO = 3,          /* the stamp is 0 */
     CS_WRONG_SIZE = 4,          /* a lent part has the wrong length */
@@ -97,8 +106,8 @@ enum {
     CS_END_NOT_ZERO = 13,       /* bytes or share words past the end aren't zero */
     CS_OLDER = 14,              /* older than the letter held */
     CS_SAME_STAMP = 15,         /* the same stamp as the letter held, other bytes */
-    CS_OTHER_DESK = 16,         /* a good letter, but not of this desk's order and keeper */
-    CS_NOTHING_HELD = 17,       /* nothing good is held */
+    CS_OTHER_DESK = 16,         /* a good letter, but not of this desk's order, key and keeper */
+    CS_NOTHING_HELD = 17,       /* nothing good of this desk's order, key and keeper is held */
     CS_LIST_TOO_SHORT = 18      /* the list lent has fewer places than there are differences */
 };
 
@@ -107,6 +116,7 @@ typedef struct {
     uint32_t number; /* 0, 4, or 9..13 */
     uint32_t place;  /* of 9..12: the place of the first faulty block, from 0; else 0 */
     uint32_t t, f, n;
+    uint32_t key;    /* the key's number, 0..255 */
     uint32_t keeper;
     uint32_t stamp;
     uint32_t length; /* of the secret, in bytes */
@@ -122,16 +132,17 @@ typedef struct {
 cs_read_result cs_read(const uint8_t *slot, size_t slot_length);
 
 /*
- * Cuts a secret into a tray: keeper x's letter goes to slot x. Byte i of the secret is the constant of a
- * polynomial whose coefficients of x, x^2, .. x^t are random words i*t .. i*t+t-1; keeper x's share word i
- * is its value at x, modulo 257. Each random word is 0..256, every value as likely as any other, 0 too.
- * Nobody may be able to guess them, and no two cuts may use the same.
+ * Cuts a secret into a tray: keeper x's letter goes to slot x, with the key's number and the stamp in it.
+ * Byte i of the secret is the constant of a polynomial whose coefficients of x, x^2, .. x^t are random words
+ * i*t .. i*t+t-1; keeper x's share word i is its value at x, modulo 257. Each random word is 0..256, every
+ * value as likely as any other, 0 too. Nobody may be able to guess them, and no two cuts may use the same,
+ * whether of one key or of two.
  *
  * Lent: the secret, 1..952 bytes; exactly t random words for each of them; the tray, n*2048 bytes.
  * Answers: 0, 1, 2, 3, 4 or 5.
  * Writes: the whole tray where the answer is 0, else nothing.
  */
-uint32_t cs_cut(uint32_t t, uint32_t f, uint32_t n, uint32_t stamp,
+uint32_t cs_cut(uint32_t t, uint32_t f, uint32_t n, uint32_t key, uint32_t stamp,
                 const uint8_t *secret, size_t secret_length,
                 const uint16_t *random, size_t random_count,
                 uint8_t *tray, size_t tray_length);
@@ -146,10 +157,11 @@ typedef struct {
 } cs_join_result;
 
 /*
- * Joins the usable letters of a tray: those that read as good and have this order, stamp and length and
- * their own slot's keeper number. Say that the tray was cut, and then at most f usable letters came to
- * differ from the cut, and any others to be unusable. Then the secret given is never a wrong one. The right
- * one is given if t+2f+1 letters are usable, or if t+f+1 usable ones are as they were cut.
+ * Joins the usable letters of a tray: those that read as good and have this order, key, stamp and length and
+ * their own slot's keeper number. All other slots are set aside: a letter with another key's number counts
+ * for no more than an empty slot. Say that the tray was cut, and then at most f usable letters came to differ
+ * from the cut, and any others to be unusable. Then the secret given is never a wrong one. The right one is
+ * given if t+2f+1 letters are usable, or if t+f+1 usable ones are as they were cut.
  *
  * The trials say how long a hunt would be that takes one set of t+1 usable keepers after the other, in
  * dictionary order of rising keeper numbers: for t=2 {1,2,3}, {1,2,4} and so on. A set's polynomials are
@@ -161,7 +173,7 @@ typedef struct {
  * Lent: the tray, n*2048 bytes; room for exactly length bytes.
  * Writes: the secret to all of the room where the number is 0, else nothing.
  */
-cs_join_result cs_join(uint32_t t, uint32_t f, uint32_t n, uint32_t stamp, uint32_t length,
+cs_join_result cs_join(uint32_t t, uint32_t f, uint32_t n, uint32_t key, uint32_t stamp, uint32_t length,
                        const uint8_t *tray, size_t tray_length,
                        uint8_t *room, size_t room_length);
 
@@ -172,25 +184,28 @@ typedef struct {
 } cs_store_result;
 
 /*
- * Offers a letter to the desk of this order and keeper. It is judged in this order: 1, 4, the letter's
+ * Offers a letter to the desk of this order, key and keeper. It is judged in this order: 1, 4, the letter's
  * own 9..13, 16, 14, 15. Where the number is 0 the desk then holds it; the letter that it held already is
- * no change. A held slot that isn't good for this desk counts as empty.
+ * no change. A held slot that isn't good for this desk counts as empty, and so does a letter of another order,
+ * key or keeper: tell a desk the same at every call, or a letter of what was told by mistake takes the place
+ * of the one held.
  *
  * Lent: the held slot, 2048 bytes; the letter, 2048 bytes.
  * Writes: the letter to all of the held slot where the number is 0, else nothing.
  */
-cs_store_result cs_store(uint32_t t, uint32_t f, uint32_t n, uint32_t keeper,
+cs_store_result cs_store(uint32_t t, uint32_t f, uint32_t n, uint32_t key, uint32_t keeper,
                          uint8_t *held, size_t held_length,
                          const uint8_t *letter, size_t letter_length);
 
 /*
- * Whether the desk has a letter to hand back. 0: the held slot is that letter. Else nothing is to be
- * handed back, and the number is 1, 4 or 17, judged in that order.
+ * Whether the desk of this order, key and keeper has a letter to hand back. 0: the held slot is that letter.
+ * Else nothing is to be handed back, and the number is 1, 4 or 17, judged in that order. It is 17 too where
+ * a good letter of another order, key or keeper is held.
  *
  * Lent: the held slot, 2048 bytes.
  * Writes: nothing.
  */
-uint32_t cs_fetch(uint32_t t, uint32_t f, uint32_t n, uint32_t keeper,
+uint32_t cs_fetch(uint32_t t, uint32_t f, uint32_t n, uint32_t key, uint32_t keeper,
                   const uint8_t *held, size_t held_length);
 
 /* What to join of a tray. */
@@ -201,26 +216,27 @@ typedef struct {
 } cs_pick_result;
 
 /*
- * Picks what to join. The tray's good letters of this order, each in its own keeper's slot, are grouped
- * by stamp and length. The groups of at least t+f+1 letters are gone through, the greatest stamp first, and
- * of one stamp the greatest length first. The pick answers 0 with the stamp and length of the first group
- * whose join gives 0: told these, cs_join gives the secret. If there are such groups and none joins, it
- * answers for the first of them, the greatest group: the number of its join, 7 or 8, its stamp and length.
+ * Picks what to join. The tray's good letters of this order and key, each in its own keeper's slot, are
+ * grouped by stamp and length. The groups of at least t+f+1 letters are gone through, the greatest stamp
+ * first, and of one stamp the greatest length first. The pick answers 0 with the stamp and length of the
+ * first group whose join gives 0: told these and the same order and key, cs_join gives the secret. If there
+ * are such groups and none joins, it answers for the first of them, the greatest group: the number of its
+ * join, 7 or 8, its stamp and length.
  *
  * A clerk's machine may break down when only a few letters of a new cut are sent. If they are just enough for
  * a group and one of them is a lie, they do not join, and the pick goes on to the older letters: it answers
  * the older stamp, and whoever joins that gets the older secret. That takes t+f+1 keepers who still have the
  * older letter; a desk that took the newer one has it no more. No answer says that nothing newer was cut, and
- * none can: all newer letters may be missing from the tray. A caller who knows the stamp of the newest cut
- * compares it with the one answered. One who does not must reckon with an older secret.
+ * none can: all newer letters may be missing from the tray. A caller who knows the stamp of the key's newest
+ * cut compares it with the one answered. One who does not must reckon with an older secret.
  *
- * It makes a join for each stamp and length that at least t+f+1 slots say, until one gives 0: mostly that is
- * one, and it is never more than eight. It takes about their time.
+ * It makes a join for each stamp and length that at least t+f+1 slots say beside this order and key, until
+ * one gives 0: mostly that is one, and it is never more than eight. It takes about their time.
  *
  * Lent: the tray, n*2048 bytes.
  * Writes: nothing.
  */
-cs_pick_result cs_pick(uint32_t t, uint32_t f, uint32_t n,
+cs_pick_result cs_pick(uint32_t t, uint32_t f, uint32_t n, uint32_t key,
                        const uint8_t *tray, size_t tray_length);
 
 /* A place where two trays differ, and what stands there: any two bytes, high byte first, as a number. */
@@ -239,10 +255,10 @@ typedef struct {
 } cs_compare_result;
 
 /*
- * Compares two trays of one order, word by word, whatever they hold: no letter is read, and damaged blocks
- * are compared like others. Each place where they differ goes to the list once, in rising order of slot,
- * block and word. If the list has too few places for all of them, the number is 18, nothing is written, and
- * the count says how many places it takes. CS_MOST_DIFFERENCES are enough for any two trays.
+ * Compares two trays of one order, word by word, whatever they hold: no letter is read, so no key is told,
+ * and damaged blocks are compared like others. Each place where they differ goes to the list once, in rising
+ * order of slot, block and word. If the list has too few places for all of them, the number is 18, nothing is
+ * written, and the count says how many places it takes. CS_MOST_DIFFERENCES are enough for any two trays.
  *
  * Lent: both trays, n*2048 bytes each; the list, of any count of places.
  * Writes: the first places of the list, as many as count says, where the number is 0, else nothing.

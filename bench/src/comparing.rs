@@ -30,7 +30,7 @@ pub struct Trays {
 impl Trays {
     pub fn equal(case: &Case) -> Trays {
         let (first, second) = (case.tray.clone(), case.tray.clone());
-        Trays { order: case.order, first, second, differences: Vec::new() }
+        Trays { order: case.told.order, first, second, differences: Vec::new() }
     }
 
     /// A hundred words differ, as far from each other over the whole tray as they can be.

@@ -8,6 +8,7 @@ use second::join::Joined;
 use second::letter::{Fault, Head};
 use second::order::Order;
 use second::pick::Picked;
+use second::told::Told;
 
 #[repr(C)]
 struct JoinResult {
@@ -32,6 +33,7 @@ struct ReadResult {
     t: u32,
     f: u32,
     n: u32,
+    key: u32,
     keeper: u32,
     stamp: u32,
     length: u32,
@@ -79,9 +81,9 @@ impl From<PickResult> for Picked {
 
 impl From<ReadResult> for Result<Head, Fault> {
     fn from(result: ReadResult) -> Result<Head, Fault> {
-        let ReadResult { number, place, t, f, n, keeper, stamp, length } = result;
+        let ReadResult { number, place, t, f, n, key, keeper, stamp, length } = result;
         match number {
-            0 => Ok(Head { order: Order::new(t, f, n), keeper, stamp, length }),
+            0 => Ok(Head { told: Told::new(Order::new(t, f, n), key), keeper, stamp, length }),
             _ => Err(Fault { number, place }),
         }
     }
@@ -127,6 +129,7 @@ macro_rules! calls {
                     t: u32,
                     f: u32,
                     n: u32,
+                    key: u32,
                     stamp: u32,
                     secret: *const u8,
                     secret_length: usize,
@@ -141,6 +144,7 @@ macro_rules! calls {
                     t: u32,
                     f: u32,
                     n: u32,
+                    key: u32,
                     tray: *const u8,
                     tray_length: usize,
                 ) -> PickResult;
@@ -151,6 +155,7 @@ macro_rules! calls {
                     t: u32,
                     f: u32,
                     n: u32,
+                    key: u32,
                     stamp: u32,
                     length: u32,
                     tray: *const u8,
@@ -185,7 +190,7 @@ macro_rules! calls {
             }
 
             pub fn cut(
-                Order { t, f, n }: Order,
+                Told { order: Order { t, f, n }, key }: Told,
                 stamp: u32,
                 secret: &[u8],
                 random: &[u16],
@@ -200,6 +205,7 @@ macro_rules! calls {
                         t,
                         f,
                         n,
+                        key,
                         stamp,
                         secret,
                         secret_length,
@@ -211,13 +217,13 @@ macro_rules! calls {
                 }
             }
 
-            pub fn pick(Order { t, f, n }: Order, tray: &[u8]) -> Picked {
+            pub fn pick(Told { order: Order { t, f, n }, key }: Told, tray: &[u8]) -> Picked {
                 // SAFETY: as in the cut.
-                unsafe { cs_pick(t, f, n, tray.as_ptr(), tray.len()) }.into()
+                unsafe { cs_pick(t, f, n, key, tray.as_ptr(), tray.len()) }.into()
             }
 
             pub fn join(
-                Order { t, f, n }: Order,
+                Told { order: Order { t, f, n }, key }: Told,
                 stamp: u32,
                 length: u32,
                 tray: &[u8],
@@ -233,6 +239,7 @@ macro_rules! calls {
                             t,
                             f,
                             n,
+                            key,
                             stamp,
                             length,
                             tray,

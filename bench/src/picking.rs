@@ -8,8 +8,9 @@ use second::join::{join, Joined};
 use second::order::{Order, LONGEST};
 use second::pick::{pick, Picked};
 use second::random::Random;
+use second::told::Told;
 
-use crate::case::{cut, Case, STAMP};
+use crate::case::{cut, Case, KEY, STAMP};
 use crate::programs::{programs, JoinCall, PickCall, Program, LIBRARY};
 use crate::race::{Side, Sides};
 
@@ -25,7 +26,7 @@ const LENGTH: u32 = LONGEST as u32;
 
 /// A tray, and its groups from the greatest stamp down. The last one joins, and no other.
 pub struct Groups {
-    order: Order,
+    told: Told,
     tray: Vec<u8>,
     groups: Vec<Group>,
     /// What the plain second program picks.
@@ -44,17 +45,17 @@ struct Group {
 impl Groups {
     /// All letters are of one cut.
     pub fn one(case: &Case) -> Groups {
-        Groups::of(case.order, case.tray.clone(), vec![STAMP], NAMES)
+        Groups::of(case.told, case.tray.clone(), vec![STAMP], NAMES)
     }
 
     /// Eight cuts, stamps 1 to 8, and two letters of each, which always match. In all but the oldest the
     /// constant of the last byte is 256, so that only the oldest joins.
     pub fn eight(random: &Random) -> Groups {
-        let order = Order::new(1, 0, 16);
-        let mut tray = vec![0; order.tray()];
+        let told = Told::new(Order::new(1, 0, 16), KEY);
+        let mut tray = vec![0; told.order.tray()];
         for stamp in 1..=8 {
             let (secret, words) = (random.bytes(LONGEST), random.words(LONGEST));
-            let mut letters = cut(order, stamp, &secret, &words);
+            let mut letters = cut(told, stamp, &secret, &words);
             for keeper in [stamp, stamp + 8] {
                 if stamp > 1 {
                     make_constant_256(slot(&mut letters, keeper), secret[LONGEST - 1]);
@@ -62,18 +63,18 @@ impl Groups {
                 exchange_slot(&mut tray, &letters, keeper);
             }
         }
-        Groups::of(order, tray, (1..=8).rev().collect(), NAMES_OF_EIGHT)
+        Groups::of(told, tray, (1..=8).rev().collect(), NAMES_OF_EIGHT)
     }
 
-    fn of(order: Order, tray: Vec<u8>, stamps: Vec<u32>, names: Names) -> Groups {
+    fn of(told: Told, tray: Vec<u8>, stamps: Vec<u32>, names: Names) -> Groups {
         let group = |stamp| {
             let mut room = vec![1; LONGEST];
-            let joined = join(order, stamp, LENGTH, &tray, &mut room);
+            let joined = join(told, stamp, LENGTH, &tray, &mut room);
             Group { stamp, joined, room }
         };
         let groups: Vec<_> = stamps.into_iter().map(group).collect();
-        let picked = pick(order, &tray);
-        Groups { order, tray, groups, picked, names }
+        let picked = pick(told, &tray);
+        Groups { told, tray, groups, picked, names }
     }
 
     /// The number of each group's join, and what is picked.
@@ -129,8 +130,8 @@ impl Side for Pick<'_> {
     }
 
     fn work(&mut self) {
-        let Groups { order, tray, .. } = black_box(self.groups);
-        self.picked = black_box((self.call)(*order, tray));
+        let Groups { told, tray, .. } = black_box(self.groups);
+        self.picked = black_box((self.call)(*told, tray));
     }
 
     fn right(&mut self) -> bool {
@@ -155,9 +156,9 @@ impl Side for Joins<'_> {
     }
 
     fn work(&mut self) {
-        let Groups { order, tray, .. } = black_box(self.groups);
+        let Groups { told, tray, .. } = black_box(self.groups);
         for Group { stamp, joined, room } in black_box(&mut self.done) {
-            *joined = (self.call)(*order, *stamp, LENGTH, tray, room);
+            *joined = (self.call)(*told, *stamp, LENGTH, tray, room);
         }
     }
 

@@ -7,6 +7,7 @@ use second::join::Joined;
 use second::letter::{Fault, Head};
 use second::order::Order;
 use second::pick::Picked;
+use second::told::Told;
 
 use crate::library::{plain, Compared, Difference};
 #[cfg(target_arch = "x86_64")]
@@ -16,9 +17,9 @@ pub const LIBRARY: &str = "Csalgodes";
 pub const LIBRARY_V3: &str = "Csalgodes for v3";
 pub const SECOND: &str = "second program";
 
-pub type CutCall = fn(Order, u32, &[u8], &[u16], &mut [u8]) -> u32;
-pub type PickCall = fn(Order, &[u8]) -> Picked;
-pub type JoinCall = fn(Order, u32, u32, &[u8], &mut [u8]) -> Joined;
+pub type CutCall = fn(Told, u32, &[u8], &[u16], &mut [u8]) -> u32;
+pub type PickCall = fn(Told, &[u8]) -> Picked;
+pub type JoinCall = fn(Told, u32, u32, &[u8], &mut [u8]) -> Joined;
 pub type ReadCall = fn(&[u8]) -> Result<Head, Fault>;
 pub type CompareCall = fn(Order, &[u8], &[u8], &mut [Difference]) -> Compared;
 pub type SealCall = fn(&mut [u8; BLOCK]);

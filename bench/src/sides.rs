@@ -40,8 +40,8 @@ impl Side for Cut<'_> {
     }
 
     fn work(&mut self) {
-        let Case { order, secret, random, .. } = black_box(self.case);
-        self.number = (self.call)(*order, STAMP, secret, random, black_box(&mut self.tray));
+        let Case { told, secret, random, .. } = black_box(self.case);
+        self.number = (self.call)(*told, STAMP, secret, random, black_box(&mut self.tray));
     }
 
     fn right(&mut self) -> bool {
@@ -79,9 +79,9 @@ impl Side for Join<'_> {
     }
 
     fn work(&mut self) {
-        let Case { order, secret, tray, .. } = black_box(self.case);
+        let Case { told, secret, tray, .. } = black_box(self.case);
         let length = secret.len() as u32;
-        self.joined = (self.call)(*order, STAMP, length, tray, black_box(&mut self.room));
+        self.joined = (self.call)(*told, STAMP, length, tray, black_box(&mut self.room));
     }
 
     fn right(&mut self) -> bool {

@@ -4,6 +4,7 @@ extern crate second_v3;
 
 use second::join::Joined;
 use second::order::Order;
+use second::told::Told;
 use second_v3::fast;
 
 use crate::library::v3;
@@ -41,16 +42,16 @@ fn here() -> bool {
         && is_x86_feature_detected!("movbe")
 }
 
-fn same(Order { t, f, n }: Order) -> second_v3::order::Order {
-    second_v3::order::Order::new(t, f, n)
+fn same(Told { order: Order { t, f, n }, key }: Told) -> second_v3::told::Told {
+    second_v3::told::Told::new(second_v3::order::Order::new(t, f, n), key)
 }
 
-fn cut(order: Order, stamp: u32, secret: &[u8], random: &[u16], tray: &mut [u8]) -> u32 {
-    fast::cut(same(order), stamp, secret, random, tray)
+fn cut(told: Told, stamp: u32, secret: &[u8], random: &[u16], tray: &mut [u8]) -> u32 {
+    fast::cut(same(told), stamp, secret, random, tray)
 }
 
-fn join(order: Order, stamp: u32, length: u32, tray: &[u8], room: &mut [u8]) -> Joined {
+fn join(told: Told, stamp: u32, length: u32, tray: &[u8], room: &mut [u8]) -> Joined {
     let second_v3::join::Joined { number, usable, need, set, trials } =
-        fast::join(same(order), stamp, length, tray, room);
+        fast::join(same(told), stamp, length, tray, room);
     Joined { number, usable, need, set, trials }
 }

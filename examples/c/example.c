@@ -1,7 +1,7 @@
 /*
  * Csalgodes from C: cuts a secret for seven keepers, loses one letter, takes another from a liar, sees by
- * comparing which slots changed, picks what to join, and joins it. Then there is one liar too many, then too
- * many letters are lost, and the pick refuses.
+ * comparing which slots changed, picks what to join, and joins it. For a key of another number the same
+ * letters give nothing. Then there is one liar too many, then too many letters are lost, and the pick refuses.
  *
  *     gcc -I target/library examples/c/example.c target/library/libcsalgodes.a -o example
  */
@@ -12,6 +12,8 @@
 #include "csalgodes.h"
 
 enum { T = 2, F = 1, N = 7, STAMP = 1, LENGTH = 32, WORDS = LENGTH * T, SLOT = 2048, TRAY = N * SLOT };
+/* By these numbers letters of one secret are told from letters of another. */
+enum { KEY = 3, OTHER_KEY = 4 };
 
 static uint8_t *slot(uint8_t *tray, int keeper) {
     return tray + (keeper - 1) * SLOT;
@@ -36,7 +38,7 @@ static int cut_new(uint8_t *secret, uint8_t *tray) {
         fprintf(stderr, "the operating system gives no random bytes\n");
         return 0;
     }
-    uint32_t number = cs_cut(T, F, N, STAMP, secret, LENGTH, words, WORDS, tray, TRAY);
+    uint32_t number = cs_cut(T, F, N, KEY, STAMP, secret, LENGTH, words, WORDS, tray, TRAY);
     if (number != 0) fprintf(stderr, "cut: number %u\n", number);
     return number == 0;
 }
@@ -60,7 +62,7 @@ static int compare_and_say(const uint8_t *before, const uint8_t *after) {
 
 /* Picks what to join, and says what that is. Whether there is something. */
 static int pick_and_say(const uint8_t *tray, cs_pick_result *picked) {
-    *picked = cs_pick(T, F, N, tray, TRAY);
+    *picked = cs_pick(T, F, N, KEY, tray, TRAY);
     printf("pick: number %u, stamp %u, length %u\n", picked->number, picked->stamp, picked->length);
     switch (picked->number) {
     case 0: return 1;
@@ -73,16 +75,23 @@ static int pick_and_say(const uint8_t *tray, cs_pick_result *picked) {
     }
 }
 
+/* Joins letters that have this key's number, and says what was found. */
+static cs_join_result join_for(uint32_t key, uint32_t stamp, uint32_t length, const uint8_t *tray,
+                               uint8_t *room) {
+    cs_join_result found = cs_join(T, F, N, key, stamp, length, tray, TRAY, room, length);
+    printf("join for key %u: number %u, usable %u, need %u, trials %u\n", key, found.number, found.usable,
+           found.need, found.trials);
+    return found;
+}
+
 /*
- * Joins what the pick names, and says what was found. The length of the secret written, 0 for none. Where
- * newer letters are lost, it is an older secret: whoever knows the newest stamp compares it with the one picked.
+ * Joins what the pick names. The length of the secret written, 0 for none. Where newer letters are lost, it is
+ * an older secret: whoever knows the newest stamp compares it with the one picked.
  */
 static uint32_t join_and_say(const uint8_t *tray, uint8_t *room) {
     cs_pick_result picked;
     if (!pick_and_say(tray, &picked)) return 0;
-    cs_join_result found = cs_join(T, F, N, picked.stamp, picked.length, tray, TRAY, room, picked.length);
-    printf("join: number %u, usable %u, need %u, trials %u\n", found.number, found.usable, found.need,
-           found.trials);
+    cs_join_result found = join_for(KEY, picked.stamp, picked.length, tray, room);
     if (found.number != 0) return 0;
     printf("agree:");
     for (int keeper = 1; keeper <= N; keeper++) {
@@ -108,6 +117,12 @@ int main(void) {
         return 1;
     }
     printf("the secret came back\n");
+
+    /* Told another key's number, the join has no letter to use, and leaves the room as it is. */
+    if (join_for(OTHER_KEY, STAMP, LENGTH, tray, room).number != 6) {
+        fprintf(stderr, "the join for key %d did not give 6\n", OTHER_KEY);
+        return 1;
+    }
 
     /* Keeper 4 lies too, one more than the order allows for. */
     memcpy(slot(tray, 4), slot(other_tray, 4), SLOT);

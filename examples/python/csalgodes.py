@@ -56,12 +56,12 @@ _words = [POINTER(c_uint16), c_size_t]
 _places = [POINTER(_Place), c_size_t]
 
 # by the name that says which calls it has: one with other calls has another
-_library = CDLL("libcsalgodes.so.0.4")
-_library.cs_cut.argtypes = [c_uint32] * 4 + _read + _words + _written
+_library = CDLL("libcsalgodes.so.0.5")
+_library.cs_cut.argtypes = [c_uint32] * 5 + _read + _words + _written
 _library.cs_cut.restype = c_uint32
-_library.cs_pick.argtypes = [c_uint32] * 3 + _read
+_library.cs_pick.argtypes = [c_uint32] * 4 + _read
 _library.cs_pick.restype = Picked
-_library.cs_join.argtypes = [c_uint32] * 5 + _read + _written
+_library.cs_join.argtypes = [c_uint32] * 6 + _read + _written
 _library.cs_join.restype = Found
 _library.cs_compare.argtypes = [c_uint32] * 3 + _read + _read + _places
 _library.cs_compare.restype = _Compared
@@ -76,9 +76,9 @@ def _lent(memory, kind):
     return (kind * len(memory)).from_buffer(memory), len(memory)
 
 
-def cut(order, stamp, secret, random):
-    """The tray of a secret, cut with t random words a byte, each 0..256."""
-    numbers = _numbers(*order, stamp)
+def cut(order, key, stamp, secret, random):
+    """The tray of a secret, its key's number in every letter, cut with t random words a byte, each 0..256."""
+    numbers = _numbers(*order, key, stamp)
     words = array("H", random)
     tray = bytearray(order.n * SLOT)
     number = _library.cs_cut(
@@ -89,17 +89,17 @@ def cut(order, stamp, secret, random):
     return tray
 
 
-def pick(order, tray):
-    """Which stamp and length to join."""
-    picked = _library.cs_pick(*_numbers(*order), bytes(tray), len(tray))
+def pick(order, key, tray):
+    """Which stamp and length of this key's letters to join."""
+    picked = _library.cs_pick(*_numbers(*order, key), bytes(tray), len(tray))
     if picked.number != 0:
         raise Refused(picked.number, str(picked), picked.stamp)
     return picked
 
 
-def join(order, stamp, length, tray):
-    """The secret, and what the join found."""
-    numbers = _numbers(*order, stamp, length)
+def join(order, key, stamp, length, tray):
+    """The secret that this key's letters give, and what the join found."""
+    numbers = _numbers(*order, key, stamp, length)
     room = bytearray(length)
     found = _library.cs_join(*numbers, bytes(tray), len(tray), *_lent(room, c_uint8))
     if found.number != 0:

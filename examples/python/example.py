@@ -1,6 +1,7 @@
 """Csalgodes from Python: cuts a secret for seven keepers, loses one letter, takes another from a liar,
-sees by comparing which slots changed, picks what to join, and joins it. Then there is one liar too many,
-then too many letters are lost, and the pick refuses.
+sees by comparing which slots changed, picks what to join, and joins it. For a key of another number the
+same letters give nothing. Then there is one liar too many, then too many letters are lost, and the pick
+refuses.
 
     LD_LIBRARY_PATH=target/library python3 examples/python/example.py
 """
@@ -11,6 +12,9 @@ import sys
 from csalgodes import SLOT, Order, Refused, compare, cut, join, pick
 
 ORDER = Order(t=2, f=1, n=7)
+# by these numbers letters of one secret are told from letters of another
+KEY = 3
+OTHER_KEY = 4
 STAMP = 1
 LENGTH = 32
 
@@ -24,7 +28,7 @@ def cut_new():
     secret = secrets.token_bytes(LENGTH)
     # randbelow draws again rather than favour some words
     words = [secrets.randbelow(257) for _ in range(LENGTH * ORDER.t)]
-    return secret, cut(ORDER, STAMP, secret, words)
+    return secret, cut(ORDER, KEY, STAMP, secret, words)
 
 
 def compare_and_say(before, after):
@@ -35,7 +39,7 @@ def compare_and_say(before, after):
 def pick_and_say(tray):
     """What to join, or None if there is nothing."""
     try:
-        picked = pick(ORDER, tray)
+        picked = pick(ORDER, KEY, tray)
     except Refused as refused:
         print("pick:", refused)
         if refused.number == 6:
@@ -55,10 +59,20 @@ def join_and_say(tray):
     picked = pick_and_say(tray)
     if picked is None:
         return None
-    secret, found = join(ORDER, picked.stamp, picked.length, tray)
-    print("join:", found)
+    secret, found = join(ORDER, KEY, picked.stamp, picked.length, tray)
+    print(f"join for key {KEY}:", found)
     print("agree:", *found.keepers())
     return secret
+
+
+def refused_for_other_key(tray):
+    """Whether the join, told another key's number, has no letter to use."""
+    try:
+        join(ORDER, OTHER_KEY, STAMP, LENGTH, tray)
+    except Refused as refused:
+        print(f"join for key {OTHER_KEY}:", refused)
+        return refused.number == 6
+    return False
 
 
 def main():
@@ -74,6 +88,9 @@ def main():
     if join_and_say(tray) != secret:
         sys.exit("the secret did not come back")
     print("the secret came back")
+
+    if not refused_for_other_key(tray):
+        sys.exit(f"the join for key {OTHER_KEY} did not give 6")
 
     # Keeper 4 lies too, one more than the order allows for.
     tray[slot(4)] = other_tray[slot(4)]

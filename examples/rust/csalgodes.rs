@@ -73,16 +73,19 @@ struct Compared {
 #[rustfmt::skip]
 extern "C" {
     fn cs_cut(
-        t: u32, f: u32, n: u32, stamp: u32,
+        t: u32, f: u32, n: u32, key: u32, stamp: u32,
         secret: *const u8, secret_length: usize,
         random: *const u16, random_count: usize,
         tray: *mut u8, tray_length: usize,
     ) -> u32;
 
-    fn cs_pick(t: u32, f: u32, n: u32, tray: *const u8, tray_length: usize) -> Picked;
+    fn cs_pick(
+        t: u32, f: u32, n: u32, key: u32,
+        tray: *const u8, tray_length: usize,
+    ) -> Picked;
 
     fn cs_join(
-        t: u32, f: u32, n: u32, stamp: u32, length: u32,
+        t: u32, f: u32, n: u32, key: u32, stamp: u32, length: u32,
         tray: *const u8, tray_length: usize,
         room: *mut u8, room_length: usize,
     ) -> Found;
@@ -95,9 +98,10 @@ extern "C" {
     ) -> Compared;
 }
 
-/// Cuts a secret into the tray, or gives the number of the refusal.
+/// Cuts a secret into the tray, its key's number in every letter, or gives the number of the refusal.
 pub fn cut(
     Order { t, f, n }: Order,
+    key: u32,
     stamp: u32,
     secret: &[u8],
     random: &[u16],
@@ -106,24 +110,26 @@ pub fn cut(
     let (bytes, length) = (secret.as_ptr(), secret.len());
     let (words, count) = (random.as_ptr(), random.len());
     let (slots, size) = (tray.as_mut_ptr(), tray.len());
-    match unsafe { cs_cut(t, f, n, stamp, bytes, length, words, count, slots, size) } {
+    match unsafe { cs_cut(t, f, n, key, stamp, bytes, length, words, count, slots, size) } {
         0 => Ok(()),
         number => Err(number),
     }
 }
 
-/// Which stamp and length to join. A refusal has them too where there are enough such letters and they
-/// do not join.
-pub fn pick(Order { t, f, n }: Order, tray: &[u8]) -> Result<Picked, Picked> {
-    match unsafe { cs_pick(t, f, n, tray.as_ptr(), tray.len()) } {
+/// Which stamp and length of this key's letters to join. A refusal has them too where there are enough
+/// such letters and they do not join.
+pub fn pick(Order { t, f, n }: Order, key: u32, tray: &[u8]) -> Result<Picked, Picked> {
+    match unsafe { cs_pick(t, f, n, key, tray.as_ptr(), tray.len()) } {
         picked if picked.number == 0 => Ok(picked),
         refusal => Err(refusal),
     }
 }
 
-/// Joins a secret as long as the room, and writes it there. A refusal leaves the room as it was.
+/// Joins this key's letters to a secret as long as the room, and writes it there. A refusal leaves the
+/// room as it was.
 pub fn join(
     Order { t, f, n }: Order,
+    key: u32,
     stamp: u32,
     tray: &[u8],
     room: &mut [u8],
@@ -132,7 +138,7 @@ pub fn join(
     let length = u32::try_from(room.len()).unwrap_or(u32::MAX);
     let (slots, size) = (tray.as_ptr(), tray.len());
     let (to, space) = (room.as_mut_ptr(), room.len());
-    match unsafe { cs_join(t, f, n, stamp, length, slots, size, to, space) } {
+    match unsafe { cs_join(t, f, n, key, stamp, length, slots, size, to, space) } {
         found if found.number == 0 => Ok(found),
         refusal => Err(refusal),
     }

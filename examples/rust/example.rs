@@ -1,6 +1,7 @@
 //! Csalgodes from Rust: cuts a secret for seven keepers, loses one letter, takes another from a
-//! liar, sees by comparing which slots changed, picks what to join, and joins it. Then there is one
-//! liar too many, then too many letters are lost, and the pick refuses.
+//! liar, sees by comparing which slots changed, picks what to join, and joins it. For a key of another
+//! number the same letters give nothing. Then there is one liar too many, then too many letters are
+//! lost, and the pick refuses.
 //!
 //!     rustc --edition 2021 -L target/library examples/rust/example.rs
 
@@ -10,6 +11,9 @@ use csalgodes::{compare, cut, join, pick, Order, Picked, SLOT};
 use std::{error::Error, fs::File, io, io::Read, ops::Range};
 
 const ORDER: Order = Order { t: 2, f: 1, n: 7 };
+/// By these numbers letters of one secret are told from letters of another.
+const KEY: u32 = 3;
+const OTHER_KEY: u32 = 4;
 const STAMP: u32 = 1;
 const LENGTH: usize = 32;
 const WORDS: usize = LENGTH * ORDER.t as usize;
@@ -39,7 +43,8 @@ fn random_word() -> io::Result<u16> {
 fn cut_new(tray: &mut [u8]) -> Result<[u8; LENGTH], Box<dyn Error>> {
     let secret = random_bytes()?;
     let words = (0..WORDS).map(|_| random_word()).collect::<Result<Vec<_>, _>>()?;
-    cut(ORDER, STAMP, &secret, &words, tray).map_err(|number| format!("cut: number {number}"))?;
+    cut(ORDER, KEY, STAMP, &secret, &words, tray)
+        .map_err(|number| format!("cut: number {number}"))?;
     Ok(secret)
 }
 
@@ -56,7 +61,7 @@ fn compare_and_say(before: &[u8], after: &[u8]) -> Result<(), Box<dyn Error>> {
 
 /// Picks what to join, and says what that is. None if there is nothing.
 fn pick_and_say(tray: &[u8]) -> Option<Picked> {
-    match pick(ORDER, tray) {
+    match pick(ORDER, KEY, tray) {
         Ok(picked) => {
             println!("pick: {picked}");
             Some(picked)
@@ -79,14 +84,14 @@ fn pick_and_say(tray: &[u8]) -> Option<Picked> {
 fn join_and_say(tray: &[u8]) -> Option<Vec<u8>> {
     let Picked { stamp, length, .. } = pick_and_say(tray)?;
     let mut room = vec![0; length as usize];
-    match join(ORDER, stamp, tray, &mut room) {
+    match join(ORDER, KEY, stamp, tray, &mut room) {
         Ok(found) => {
             let keepers: Vec<_> = found.keepers().iter().map(u32::to_string).collect();
-            println!("join: {found}\nagree: {}", keepers.join(" "));
+            println!("join for key {KEY}: {found}\nagree: {}", keepers.join(" "));
             Some(room)
         }
         Err(found) => {
-            println!("join: {found}");
+            println!("join for key {KEY}: {found}");
             None
         }
     }
@@ -107,6 +112,12 @@ fn main() -> Result<(), Box<dyn Error>> {
         return Err("the secret did not come back".into());
     }
     println!("the secret came back");
+
+    // Told another key's number, the join has no letter to use.
+    match join(ORDER, OTHER_KEY, STAMP, &tray, &mut [0; LENGTH]) {
+        Err(found) if found.number == 6 => println!("join for key {OTHER_KEY}: {found}"),
+        _ => return Err(format!("the join for key {OTHER_KEY} did not give 6").into()),
+    }
 
     // Keeper 4 lies too, one more than the order allows for.
     tray[slot(4)].copy_from_slice(&other_tray[slot(4)]);

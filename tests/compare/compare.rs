@@ -10,6 +10,7 @@ use second::order::{Order, SLOT};
 use second::peer::Peer;
 use second::random::Random;
 use second::tally::Tally;
+use second::told::Told;
 
 const BLOCKS: usize = SLOT / BLOCK;
 
@@ -76,7 +77,8 @@ fn order_of_each_n(random: &Random) -> Vec<Order> {
 }
 
 fn any_cut(order: Order, random: &Random) -> Vec<u8> {
-    Tray::cut(order, cases::stamp(random), cases::length(random), random).bytes
+    let (told, stamp) = (cases::told_of(order, random), cases::stamp(random));
+    Tray::cut(told, stamp, cases::length(random), random).bytes
 }
 
 /// Puts another word at a place, and says what a comparison is to tell of it.
@@ -219,32 +221,41 @@ fn raw_words() {
     comparers.tally.expect(980, &[0, 18]);
 }
 
-/// The same secret and random words: in each block the lowest word of the stamp differs, and with it
-/// both check words.
-#[test]
-fn two_cuts_that_differ_in_the_stamp_alone() {
-    let (random, mut comparers) = (&Random::new(135), Comparers::start());
+/// The same secret and random words under two keys and stamps. In each block one word alone differs, and with
+/// it both check words.
+fn two_cuts_that_differ_in(word: u16, cuts: [(u32, u32); 2], seed: u64) {
+    let (random, mut comparers) = (&Random::new(seed), Comparers::start());
     for order in Order::all() {
         let length = cases::length(random);
         let (secret, words) = (random.bytes(length), random.words(length * order.t as usize));
-        let [first, second] = [7, 8].map(|stamp| {
+        let [first, second] = cuts.map(|(key, stamp)| {
             let mut tray = vec![0; order.tray()];
-            assert_eq!(cut(order, stamp, &secret, &words, &mut tray), 0);
+            assert_eq!(cut(Told::new(order, key), stamp, &secret, &words, &mut tray), 0);
             tray
         });
         let found = comparers.same_with_each_list(order, &first, &second, random);
         let mut places = Vec::new();
         for slot in 1..=order.n as u16 {
             for block in 0..length.div_ceil(SHARES_IN_BLOCK) as u16 {
-                places.extend([9, 254, 255].map(|word| (slot, block, word)));
+                places.extend([word, 254, 255].map(|word| (slot, block, word)));
             }
         }
         let told = found.iter().map(|told| (told.slot, told.block, told.word));
         assert_eq!(told.collect::<Vec<_>>(), places);
-        let mut stamps = found.iter().filter(|told| told.word == 9);
-        assert!(stamps.all(|told| (told.first, told.second) == (7, 8)));
+        let mut changed = found.iter().filter(|told| told.word == word);
+        assert!(changed.all(|told| (told.first, told.second) == (7, 8)));
     }
     comparers.tally.expect(810, &[0, 18]);
+}
+
+#[test]
+fn two_cuts_that_differ_in_the_stamp_alone() {
+    two_cuts_that_differ_in(9, [(255, 7), (255, 8)], 135);
+}
+
+#[test]
+fn two_cuts_that_differ_in_the_key_alone() {
+    two_cuts_that_differ_in(13, [(7, 9), (8, 9)], 146);
 }
 
 /// Of other secrets, lengths and stamps.

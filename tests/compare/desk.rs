@@ -1,6 +1,6 @@
 //! `cs_store` and `cs_fetch` beside the second program's desk, in sequences.
 
-use second::cases::{self, FAR, LENGTHS, STAMPS};
+use second::cases::{self, FAR, LENGTHS, NO_KEYS, STAMPS};
 use second::damage::{forge_word, seal, set_word};
 use second::desk::Desk;
 use second::letter::{Head, Letter};
@@ -8,6 +8,7 @@ use second::order::{Order, SLOT};
 use second::peer::Peer;
 use second::random::Random;
 use second::tally::Tally;
+use second::told::Told;
 
 /// The two desks side by side, over one held slot.
 struct Desks {
@@ -47,14 +48,14 @@ impl Desks {
 }
 
 fn any_desk(random: &Random) -> Desk {
-    let Head { order, keeper, .. } = cases::head(random);
-    Desk { order, keeper }
+    let Head { told, keeper, .. } = cases::head(random);
+    Desk { told, keeper }
 }
 
 /// A letter for the desk, with few stamps and lengths so that old ones come back.
 fn letter_for(desk: Desk, random: &Random) -> Vec<u8> {
     let (stamp, length) = (random.between(1, 12), *random.choose(&[1, 2, 238, 239, 952]));
-    let head = Head { order: desk.order, keeper: desk.keeper, stamp, length };
+    let head = Head { told: desk.told, keeper: desk.keeper, stamp, length };
     // a pattern of the head's own, so that the same letter comes again, and others with its stamp
     let pattern = random.between(0, 1);
     let shares = (0..length).map(|i| (i * stamp + pattern) % 257).collect();
@@ -63,10 +64,11 @@ fn letter_for(desk: Desk, random: &Random) -> Vec<u8> {
 
 /// A desk that this one's letters aren't for.
 fn another(desk: Desk, random: &Random) -> Desk {
-    let Desk { order, keeper } = desk;
-    match random.below(2) {
-        0 => Desk { order, keeper: keeper % order.n + 1 },
-        _ => Desk { order: Order::new(order.t % 7 + 1, 0, order.n.max(8)), keeper },
+    let Desk { told: Told { order, key }, keeper } = desk;
+    match random.below(3) {
+        0 => Desk { keeper: keeper % order.n + 1, ..desk },
+        1 => Desk { told: Told::new(order, cases::other_key(key, random)), keeper },
+        _ => Desk { told: Told::new(Order::new(order.t % 7 + 1, 0, order.n.max(8)), key), keeper },
     }
 }
 
@@ -101,7 +103,7 @@ fn sequences_from_an_empty_slot() {
             let offered = any_offer(desk, random);
             desks.same(desk, &offered);
             if let Ok(Letter { head, .. }) = Letter::read(&offered) {
-                let own = head.order == desk.order && head.keeper == desk.keeper;
+                let own = head.told == desk.told && head.keeper == desk.keeper;
                 if own && best.as_ref().is_none_or(|(stamp, _)| head.stamp > *stamp) {
                     best = Some((head.stamp, offered));
                 }
@@ -161,7 +163,7 @@ fn letters_of_every_kind_to_an_empty_desk() {
             let head = Head { stamp, length: length as u32, ..cases::head(random) };
             desks.held = random.bytes(SLOT);
             let slot = cases::letter_of(head, random).slot();
-            desks.same(Desk { order: head.order, keeper: head.keeper }, &slot);
+            desks.same(Desk { told: head.told, keeper: head.keeper }, &slot);
         }
     }
     desks.stored.expect(80, &[0]);
@@ -175,8 +177,8 @@ fn faulty_letters() {
     let mut desks = Desks::start();
     for round in 0..1500 {
         let desk = any_desk(random);
-        let Desk { order, keeper } = desk;
-        let head = Head { order, keeper, stamp: random.between(1, 3), length: 800 };
+        let Desk { told, keeper } = desk;
+        let head = Head { told, keeper, stamp: random.between(1, 3), length: 800 };
         desks.held = cases::letter_of(Head { stamp: 2, ..head }, random).slot();
         let mut offered = cases::letter_of(head, random).slot();
         let place = random.below(4);
@@ -184,7 +186,11 @@ fn faulty_letters() {
             0 => set_word(&mut offered, place, random.below(256), random.between(257, 65535)),
             1 => offered[place * 512 + 509] ^= 3,
             2 => forge_word(&mut offered, place, random.below(2), random.between(2, 80)),
-            3 => forge_word(&mut offered, place, 2 + random.below(14), random.between(17, 256)),
+            3 => {
+                let word = 2 + random.below(14);
+                let value = if word == 13 { 256 } else { random.between(17, 256) };
+                forge_word(&mut offered, place, word, value);
+            }
             _ => {
                 set_word(&mut offered, 3, 253, random.between(1, 256));
                 seal(&mut offered, 3);
@@ -225,8 +231,9 @@ fn every_small_order_and_keeper() {
         for f in 0..=8 {
             for n in 0..=17 {
                 let keeper = *random.choose(&[0, 1, n, n + 1]);
-                let desk = Desk { order: Order::new(t, f, n), keeper };
-                let mut slot = letter_for(Desk { order: Order::new(1, 0, 9), keeper: 3 }, random);
+                let desk = Desk { told: cases::told_of(Order::new(t, f, n), random), keeper };
+                let told = Told { order: Order::new(1, 0, 9), ..desk.told };
+                let mut slot = letter_for(Desk { told, keeper: 3 }, random);
                 for (word, value) in (2..).zip([t, f, n, keeper]) {
                     set_word(&mut slot, 0, word, value);
                 }
@@ -247,16 +254,21 @@ fn numbers_far_outside() {
         for _ in 0..10 {
             let desk = any_desk(random);
             let slot = letter_for(desk, random);
-            let Desk { order, .. } = desk;
+            let Desk { told: Told { order, key }, .. } = desk;
             desks.held = slot.clone();
             desks.same(Desk { keeper: far, ..desk }, &slot);
-            desks.same(Desk { order: Order { t: far, ..order }, ..desk }, &slot);
-            desks.same(Desk { order: Order { f: far, ..order }, ..desk }, &slot);
-            desks.same(Desk { order: Order { n: far, ..order }, ..desk }, &slot);
+            for told in [
+                Told::new(Order { t: far, ..order }, key),
+                Told::new(Order { f: far, ..order }, key),
+                Told::new(Order { n: far, ..order }, key),
+                Told::new(order, *random.choose(&NO_KEYS)),
+            ] {
+                desks.same(Desk { told, ..desk }, &slot);
+            }
         }
     }
-    desks.stored.expect(320, &[1]);
-    desks.fetched.expect(320, &[1]);
+    desks.stored.expect(400, &[1]);
+    desks.fetched.expect(400, &[1]);
 }
 
 /// Each pair of faults that one call can have, so that the desk's own order of judging shows.
@@ -267,25 +279,27 @@ fn several_refusals_at_once() {
     for faults in (0..64).cycle().take(1280) {
         let has = |fault: u32| faults >> fault & 1 == 1;
         let desk = any_desk(random);
-        let mut told = desk;
+        let mut asked = desk;
         desks.held = letter_for(desk, random);
         let own = if has(3) { another(desk, random) } else { desk };
         let mut offered = if has(4) { letter_for(own, random) } else { desks.held.clone() };
         if has(2) {
-            forge_word(&mut offered, 0, 13, 1);
+            forge_word(&mut offered, 0, 14, 1);
         }
         if has(5) {
             set_word(&mut offered, 0, random.below(256), random.between(0, 300));
         }
-        if has(0) {
-            told.keeper = *random.choose(&[0, desk.order.n + 1]);
+        if has(0) && random.once_in(2) {
+            asked.keeper = *random.choose(&[0, desk.told.order.n + 1]);
+        } else if has(0) {
+            asked.told.key = *random.choose(&NO_KEYS);
         }
         if has(1) && random.once_in(2) {
             offered.push(0);
         } else if has(1) {
             desks.held.pop();
         }
-        desks.same(told, &offered);
+        desks.same(asked, &offered);
     }
     desks.stored.expect(1280, &[0, 1, 4, 9, 10, 12, 14, 15, 16]);
     desks.fetched.expect(1280, &[0, 1, 4]);

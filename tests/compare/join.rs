@@ -1,12 +1,13 @@
 //! `cs_join` beside the second program's join, which tries every set of t+1 letters.
 
-use second::cases::{self, Tray, FAR};
+use second::cases::{self, Tray, FAR, NO_KEYS};
 use second::damage::{exchange_slot, forge_word, lie, set_word, slot};
 use second::join::join;
 use second::order::{Order, SLOT};
 use second::peer::Peer;
 use second::random::Random;
 use second::tally::Tally;
+use second::told::Told;
 
 /// The two joins side by side.
 struct Joiners {
@@ -22,17 +23,17 @@ impl Joiners {
     /// The number, and what is then in a room of this size.
     fn same_call(
         &mut self,
-        order: Order,
+        told: Told,
         stamp: u32,
         length: u32,
         tray: &[u8],
         room: usize,
     ) -> (u32, Vec<u8>) {
         let (mut expected, mut left) = (vec![0xcc; room], vec![0xcc; room]);
-        let joined = join(order, stamp, length, tray, &mut expected);
-        let answered = self.peer.join(order, stamp, length, tray, &mut left);
-        assert_eq!(answered, joined, "{order:?}, stamp {stamp}, length {length}");
-        assert!(left == expected, "{order:?}, stamp {stamp}, length {length}");
+        let joined = join(told, stamp, length, tray, &mut expected);
+        let answered = self.peer.join(told, stamp, length, tray, &mut left);
+        assert_eq!(answered, joined, "{told:?}, stamp {stamp}, length {length}");
+        assert!(left == expected, "{told:?}, stamp {stamp}, length {length}");
         assert_eq!(answered.trials == 0, (1..=6).contains(&answered.number));
         self.tally.add(joined.number);
         (joined.number, left)
@@ -40,12 +41,13 @@ impl Joiners {
 
     fn same(&mut self, tray: &Tray) -> (u32, Vec<u8>) {
         let length = tray.secret.len();
-        self.same_call(tray.order, tray.stamp, tray.length(), &tray.bytes, length)
+        self.same_call(tray.told, tray.stamp, tray.length(), &tray.bytes, length)
     }
 }
 
 fn any_tray(order: Order, random: &Random) -> Tray {
-    Tray::cut(order, cases::stamp(random), 1 + random.below(40), random)
+    let (told, stamp) = (cases::told_of(order, random), cases::stamp(random));
+    Tray::cut(told, stamp, 1 + random.below(40), random)
 }
 
 /// Some keepers of the order, chosen by chance.
@@ -64,17 +66,19 @@ fn lie_somewhere(tray: &mut Tray, keeper: u32, random: &Random) {
     lie_at(tray, keeper, place, random);
 }
 
-/// Makes a slot unusable in one of many ways; the last is a good letter for another keeper.
+/// Makes a slot unusable in one of many ways; the last are good letters for another keeper, and of
+/// another key.
 fn spoil(tray: &mut Tray, keeper: u32, random: &Random) {
-    let another = keeper % tray.order.n + 1;
+    let another = keeper % tray.told.order.n + 1;
     let slot = slot(&mut tray.bytes, keeper);
-    match random.below(6) {
+    match random.below(7) {
         0 => slot.fill(0),
         1 => slot[random.below(512)] ^= 1 << random.below(8),
         2 => set_word(slot, 0, random.below(256), 257),
         3 => slot[SLOT - 1] = 1,
         4 => slot.copy_from_slice(&random.bytes(SLOT)),
-        _ => forge_word(slot, 0, 5, another),
+        5 => forge_word(slot, 0, 5, another),
+        _ => forge_word(slot, 0, 13, cases::other_key(tray.told.key, random)),
     }
 }
 
@@ -83,7 +87,8 @@ fn clean_trays_of_every_order() {
     let (random, mut joiners) = (&Random::new(41), Joiners::start());
     for order in Order::all() {
         for _ in 0..3 {
-            let tray = Tray::cut(order, cases::stamp(random), cases::length(random), random);
+            let (told, stamp) = (cases::told_of(order, random), cases::stamp(random));
+            let tray = Tray::cut(told, stamp, cases::length(random), random);
             assert_eq!(joiners.same(&tray), (0, tray.secret));
         }
     }
@@ -106,18 +111,21 @@ fn every_count_of_usable_letters() {
     joiners.tally.expect(2033, &[0, 6]);
 }
 
-/// Good letters all of them, but of an older or newer cut, another length or another order.
+/// Good letters all of them, but of an older or newer cut, another length, another key or another order.
 #[test]
 fn stale_and_foreign_letters() {
     let (random, mut joiners) = (&Random::new(43), Joiners::start());
     for round in 0..600 {
         let order = cases::order(random);
         let mut tray = any_tray(order, random);
-        let (stamp, length) = (tray.stamp, tray.secret.len());
-        let other = match round % 3 {
-            0 => Tray::cut(order, (stamp ^ 1).max(2), length, random),
-            1 => Tray::cut(order, stamp, length % 952 + 1, random),
-            _ => Tray::cut(Order::new(order.t % 7 + 1, 0, order.n.max(8)), stamp, length, random),
+        let (told, stamp, length) = (tray.told, tray.stamp, tray.secret.len());
+        let other_key = Told { key: cases::other_key(told.key, random), ..told };
+        let other_order = Told { order: Order::new(order.t % 7 + 1, 0, order.n.max(8)), ..told };
+        let other = match round % 4 {
+            0 => Tray::cut(told, (stamp ^ 1).max(2), length, random),
+            1 => Tray::cut(told, stamp, length % 952 + 1, random),
+            2 => Tray::cut(other_key, stamp, length, random),
+            _ => Tray::cut(other_order, stamp, length, random),
         };
         for keeper in keepers(order, random.between(0, order.n), random) {
             exchange_slot(&mut tray.bytes, &other.bytes, keeper);
@@ -189,7 +197,7 @@ fn other_liars_at_other_words() {
     for _ in 0..3 {
         for &order in &orders {
             let length = 4 + random.below(20);
-            let mut tray = Tray::cut(order, 3, length, random);
+            let mut tray = Tray::cut(cases::told_of(order, random), 3, length, random);
             let liars = keepers(order, order.f + random.between(1, 3), random);
             for (keeper, place) in liars.into_iter().zip((0..length).cycle()) {
                 lie_at(&mut tray, keeper, place, random);
@@ -232,7 +240,7 @@ fn two_cuts_in_one_tray() {
     for order in Order::all() {
         for _ in 0..3 {
             let mut tray = any_tray(order, random);
-            let other = Tray::cut(order, tray.stamp, tray.secret.len(), random);
+            let other = Tray::cut(tray.told, tray.stamp, tray.secret.len(), random);
             for keeper in keepers(order, random.between(1, order.n), random) {
                 exchange_slot(&mut tray.bytes, &other.bytes, keeper);
             }
@@ -265,7 +273,7 @@ fn small_trays_by_chance() {
     let orders = [Order::new(1, 1, 6), Order::new(1, 0, 4), Order::new(2, 1, 8)];
     for round in 0..2400 {
         let order = orders[round % 3];
-        let mut tray = Tray::cut(order, 9, 2, random);
+        let mut tray = Tray::cut(cases::told_of(order, random), 9, 2, random);
         for keeper in 1..=order.n {
             let slot = slot(&mut tray.bytes, keeper);
             lie(slot, 0, *random.choose(&[keeper - 1, keeper - 1, keeper, 256]));
@@ -286,7 +294,8 @@ fn the_largest_sizes() {
     for (t, f) in [(3, 3), (7, 2), (7, 1), (5, 2), (1, 1), (7, 0)] {
         for liars in 0..=3 {
             for last in [true, false] {
-                let mut tray = Tray::cut(Order::new(t, f, 16), 77, 952, random);
+                let told = cases::told_of(Order::new(t, f, 16), random);
+                let mut tray = Tray::cut(told, 77, 952, random);
                 for keeper in 1..=liars {
                     let places = if last { 951..952 } else { 0..40 };
                     places.for_each(|place| lie_at(&mut tray, keeper, place, random));
@@ -305,7 +314,7 @@ fn every_small_order() {
         for f in 0..=8 {
             for n in 0..=17 {
                 let tray = random.bytes(n as usize * SLOT);
-                joiners.same_call(Order::new(t, f, n), 1, 1, &tray, 1);
+                joiners.same_call(cases::told_of(Order::new(t, f, n), random), 1, 1, &tray, 1);
             }
         }
     }
@@ -316,35 +325,41 @@ fn every_small_order() {
 fn numbers_far_outside() {
     let (random, mut joiners) = (&Random::new(55), Joiners::start());
     for far in FAR {
-        for Tray { order, stamp, secret, bytes } in
+        for Tray { told, stamp, secret, bytes } in
             [cases::order(random); 8].map(|order| any_tray(order, random))
         {
-            let length = secret.len();
-            joiners.same_call(Order { t: far, ..order }, stamp, 1, &bytes, length);
-            joiners.same_call(Order { f: far, ..order }, stamp, 1, &bytes, length);
-            joiners.same_call(Order { n: far, ..order }, stamp, 1, &bytes, length);
-            joiners.same_call(order, stamp, far.max(953), &bytes, length);
-            joiners.same_call(order, stamp ^ far, length as u32, &bytes, length);
+            let (Told { order, key }, length) = (told, secret.len());
+            for told in [
+                Told::new(Order { t: far, ..order }, key),
+                Told::new(Order { f: far, ..order }, key),
+                Told::new(Order { n: far, ..order }, key),
+                Told::new(order, *random.choose(&NO_KEYS)),
+            ] {
+                joiners.same_call(told, stamp, length as u32, &bytes, length);
+            }
+            joiners.same_call(told, stamp, far.max(953), &bytes, length);
+            joiners.same_call(told, stamp ^ far, length as u32, &bytes, length);
+            joiners.same_call(told, 0, length as u32, &bytes, length);
         }
     }
-    joiners.tally.expect(320, &[1, 2, 3, 6]);
+    joiners.tally.expect(448, &[1, 2, 3, 6]);
 }
 
 #[test]
 fn wrong_lengths_of_each_part() {
     let (random, mut joiners) = (&Random::new(56), Joiners::start());
     for _ in 0..60 {
-        let Tray { order, stamp, secret, bytes } = any_tray(cases::order(random), random);
+        let Tray { told, stamp, secret, bytes } = any_tray(cases::order(random), random);
         let (length, size) = (secret.len(), bytes.len());
         for room in [0, length - 1, length + 1, 952, 953] {
-            joiners.same_call(order, stamp, length as u32, &bytes, room);
+            joiners.same_call(told, stamp, length as u32, &bytes, room);
         }
         for size in [0, 1, SLOT, size - SLOT, size - 1] {
-            joiners.same_call(order, stamp, length as u32, &bytes[..size], length);
+            joiners.same_call(told, stamp, length as u32, &bytes[..size], length);
         }
         for more in [1, SLOT] {
             let longer = [bytes.as_slice(), &vec![0; more]].concat();
-            joiners.same_call(order, stamp, length as u32, &longer, length);
+            joiners.same_call(told, stamp, length as u32, &longer, length);
         }
     }
     joiners.tally.expect(720, &[4]);
@@ -357,20 +372,23 @@ fn several_refusals_at_once() {
     for faults in (0..64).cycle().take(960) {
         let has = |fault: u32| faults >> fault & 1 == 1;
         let mut tray = any_tray(cases::order(random), random);
-        let mut order = tray.order;
+        let mut told = tray.told;
+        let order = told.order;
         if has(4) {
             (1..=order.n).for_each(|keeper| spoil(&mut tray, keeper, random));
         }
         if has(5) {
             (1..=order.n).for_each(|keeper| lie_at(&mut tray, keeper, 0, random));
         }
-        if has(0) {
-            order.n = order.t + 4 * order.f;
+        if has(0) && random.once_in(2) {
+            told.order.n = order.t + 4 * order.f;
+        } else if has(0) {
+            told.key = *random.choose(&NO_KEYS);
         }
         let length = if has(1) { *random.choose(&[0, 953]) } else { tray.length() };
         let stamp = if has(2) { 0 } else { tray.stamp };
         let room = length as usize + usize::from(has(3));
-        joiners.same_call(order, stamp, length, &tray.bytes, room);
+        joiners.same_call(told, stamp, length, &tray.bytes, room);
     }
     joiners.tally.expect(960, &[0, 1, 2, 3, 4, 6, 7]);
 }

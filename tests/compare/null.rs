@@ -1,6 +1,6 @@
 //! NULL where a part is empty: each call answers as the second program does, which knows no pointers.
 
-use second::cases::Tray;
+use second::cases::{self, Tray, NO_KEYS};
 use second::compare::{compare, Difference};
 use second::cut::cut;
 use second::desk::Desk;
@@ -10,6 +10,7 @@ use second::peer::Peer;
 use second::pick::pick;
 use second::random::Random;
 use second::tally::Tally;
+use second::told::Told;
 
 const STAMP: u32 = 7;
 const LENGTH: usize = 3;
@@ -22,73 +23,75 @@ fn lent<T>(part: &[T], empty: u32, k: u32) -> &[T] {
     }
 }
 
-/// Each lawful order's tray, and an order to tell with it: its own, one with a keeper too few, and one
-/// without keepers, whose tray is empty.
-fn told(random: &Random) -> Vec<(Order, Tray)> {
-    let mut told = Vec::new();
+/// Each lawful order's tray, and what to tell with it: its own order and key, an order with a keeper too few,
+/// one without keepers, whose tray is empty, and a number of no key.
+fn trays(random: &Random) -> Vec<(Told, Tray)> {
+    let mut trays = Vec::new();
     for order in Order::all() {
-        let tray = Tray::cut(order, STAMP, LENGTH, random);
+        let told = cases::told_of(order, random);
+        let tray = Tray::cut(told, STAMP, LENGTH, random);
         for n in [order.n, order.t + 4 * order.f, 0] {
-            told.push((Order { n, ..order }, tray.clone()));
+            trays.push((Told { order: Order { n, ..order }, ..told }, tray.clone()));
         }
+        trays.push((Told { key: *random.choose(&NO_KEYS), ..told }, tray));
     }
-    told
+    trays
 }
 
 #[test]
 fn the_slot_of_a_read() {
     let mut peer = Peer::with_null();
-    assert_eq!(peer.read(&[]), [4, 0, 0, 0, 0, 0, 0, 0]);
+    assert_eq!(peer.read(&[]), [4, 0, 0, 0, 0, 0, 0, 0, 0]);
 }
 
 #[test]
 fn each_part_of_a_cut() {
     let (random, mut peer, mut tally) = (&Random::new(121), Peer::with_null(), Tally::default());
-    for (order, tray) in told(random) {
-        let words = random.words(LENGTH * order.t as usize);
+    for (told, tray) in trays(random) {
+        let words = random.words(LENGTH * told.order.t as usize);
         for (empty, stamp) in (0..8).flat_map(|empty| [(empty, 0), (empty, STAMP)]) {
             let secret = lent(&tray.secret, empty, 0);
             let words = lent(&words, empty, 1);
             let mut expected = lent(&tray.bytes, empty, 2).to_vec();
             let mut left = expected.clone();
-            let number = cut(order, stamp, secret, words, &mut expected);
-            let answered = peer.cut(order, stamp, secret, words, &mut left);
-            assert_eq!(answered, number, "{order:?}, stamp {stamp}, empty {empty:b}");
-            assert!(left == expected, "{order:?}, stamp {stamp}, empty {empty:b}");
+            let number = cut(told, stamp, secret, words, &mut expected);
+            let answered = peer.cut(told, stamp, secret, words, &mut left);
+            assert_eq!(answered, number, "{told:?}, stamp {stamp}, empty {empty:b}");
+            assert!(left == expected, "{told:?}, stamp {stamp}, empty {empty:b}");
             tally.add(number);
         }
     }
-    tally.expect(7776, &[0, 1, 2, 3, 4]);
+    tally.expect(10_368, &[0, 1, 2, 3, 4]);
 }
 
 /// The length told is now and then the empty room's own.
 #[test]
 fn each_part_of_a_join() {
     let (random, mut peer, mut tally) = (&Random::new(122), Peer::with_null(), Tally::default());
-    for (order, tray) in told(random) {
+    for (told, tray) in trays(random) {
         for (empty, stamp) in (0..4).flat_map(|empty| [(empty, 0), (empty, STAMP)]) {
             let length = *random.choose(&[0, LENGTH as u32, LENGTH as u32, 953]);
             let bytes = lent(&tray.bytes, empty, 0);
             let mut expected = lent(&tray.secret, empty, 1).to_vec();
             expected.fill(0xcc);
             let mut left = expected.clone();
-            let joined = join(order, stamp, length, bytes, &mut expected);
-            let answered = peer.join(order, stamp, length, bytes, &mut left);
-            assert_eq!(answered, joined, "{order:?}, stamp {stamp}, {length}, empty {empty:b}");
-            assert!(left == expected, "{order:?}, stamp {stamp}, {length}, empty {empty:b}");
+            let joined = join(told, stamp, length, bytes, &mut expected);
+            let answered = peer.join(told, stamp, length, bytes, &mut left);
+            assert_eq!(answered, joined, "{told:?}, stamp {stamp}, {length}, empty {empty:b}");
+            assert!(left == expected, "{told:?}, stamp {stamp}, {length}, empty {empty:b}");
             tally.add(joined.number);
         }
     }
-    tally.expect(3888, &[0, 1, 2, 3, 4]);
+    tally.expect(5184, &[0, 1, 2, 3, 4]);
 }
 
 #[test]
 fn each_part_at_the_desk() {
     let (random, mut peer) = (&Random::new(123), Peer::with_null());
     let (mut stored, mut fetched) = (Tally::default(), Tally::default());
-    for (order, tray) in told(random) {
+    for (told, tray) in trays(random) {
         for (empty, keeper) in (0..4).flat_map(|empty| [(empty, 0), (empty, 1)]) {
-            let desk = Desk { order, keeper };
+            let desk = Desk { told, keeper };
             let mut expected = lent(&vec![0; SLOT], empty, 0).to_vec();
             let mut left = expected.clone();
             let letter = lent(&tray.bytes[..SLOT], empty, 1);
@@ -101,30 +104,30 @@ fn each_part_at_the_desk() {
             fetched.add(number);
         }
     }
-    stored.expect(3888, &[0, 1, 4]);
-    fetched.expect(3888, &[0, 1, 4, 17]);
+    stored.expect(5184, &[0, 1, 4]);
+    fetched.expect(5184, &[0, 1, 4, 17]);
 }
 
 #[test]
 fn the_tray_of_a_pick() {
     let (random, mut peer, mut tally) = (&Random::new(124), Peer::with_null(), Tally::default());
-    for (order, tray) in told(random) {
+    for (told, tray) in trays(random) {
         for empty in 0..2 {
             let bytes = lent(&tray.bytes, empty, 0);
-            let picked = pick(order, bytes);
-            assert_eq!(peer.pick(order, bytes), picked, "{order:?}, empty {empty}");
+            let picked = pick(told, bytes);
+            assert_eq!(peer.pick(told, bytes), picked, "{told:?}, empty {empty}");
             tally.add(picked.number);
         }
     }
-    tally.expect(972, &[0, 1, 4]);
+    tally.expect(1296, &[0, 1, 4]);
 }
 
-/// The trays are the same, or differ in one word of each slot.
+/// The trays are the same, or differ in one word of each slot. A comparison is told no key.
 #[test]
 fn each_part_of_a_comparison() {
     let (random, mut peer, mut tally) = (&Random::new(125), Peer::with_null(), Tally::default());
     let place = Difference { slot: 9, block: 8, word: 7, first: 6, second: 5 };
-    for (order, tray) in told(random) {
+    for (Told { order, .. }, tray) in trays(random) {
         let mut other = tray.bytes.clone();
         other.iter_mut().step_by(SLOT).for_each(|byte| *byte ^= 1);
         for (empty, second) in (0..8).flat_map(|empty| [(empty, &tray.bytes), (empty, &other)]) {
@@ -138,5 +141,5 @@ fn each_part_of_a_comparison() {
             tally.add(compared.number);
         }
     }
-    tally.expect(7776, &[0, 1, 4, 18]);
+    tally.expect(10_368, &[0, 1, 4, 18]);
 }

@@ -10,14 +10,15 @@ use second::order::{Order, SLOT};
 use second::pick::{pick, Picked};
 use second::report::report;
 use second::solve::subsets;
+use second::told::Told;
 
-const ORDER: Order = Order { t: 1, f: 1, n: 6 };
+const TOLD: Told = Told { order: Order { t: 1, f: 1, n: 6 }, key: 0 };
 const STAMP: u32 = 7;
 
 /// One byte cut under the page's order, with one random word.
 fn page_tray(secret: u8, random: u16) -> Vec<u8> {
-    let mut tray = vec![0; ORDER.tray()];
-    assert_eq!(cut(ORDER, STAMP, &[secret], &[random], &mut tray), 0);
+    let mut tray = vec![0; TOLD.order.tray()];
+    assert_eq!(cut(TOLD, STAMP, &[secret], &[random], &mut tray), 0);
     tray
 }
 
@@ -28,13 +29,13 @@ fn share_words(tray: &mut [u8], keepers: impl IntoIterator<Item = u32>) -> Vec<u
 /// The join of a tray in which the keepers listed hold these words and the others nothing.
 fn join_of(words: &[(u32, u32)]) -> (Joined, u8) {
     let full = page_tray(200, 100);
-    let mut tray = vec![0; ORDER.tray()];
+    let mut tray = vec![0; TOLD.order.tray()];
     for &(keeper, word) in words {
         exchange_slot(&mut tray, &full, keeper);
         lie(slot(&mut tray, keeper), 0, word);
     }
     let mut room = [99];
-    let joined = join(ORDER, STAMP, 1, &tray, &mut room);
+    let joined = join(TOLD, STAMP, 1, &tray, &mut room);
     (joined, room[0])
 }
 
@@ -106,9 +107,9 @@ fn c9_random_word_0() {
 
 #[test]
 fn c10_two_coefficients() {
-    let order = Order::new(2, 0, 16);
-    let mut tray = vec![0; order.tray()];
-    assert_eq!(cut(order, 1, &[5], &[7, 11], &mut tray), 0);
+    let told = Told::new(Order::new(2, 0, 16), 0);
+    let mut tray = vec![0; told.order.tray()];
+    assert_eq!(cut(told, 1, &[5], &[7, 11], &mut tray), 0);
     assert_eq!(share_words(&mut tray, [1, 2, 3, 16]), [23, 63, 125, 106]);
 }
 
@@ -152,12 +153,40 @@ fn a_slot_of_zeros_is_11() {
     assert_eq!(Letter::read(&[0; SLOT]), Err(Fault { number: 11, place: 0 }));
 }
 
+/// The key stands in word 13, and nothing else of a letter hangs on it but the check.
+#[test]
+fn word_13_is_the_key() {
+    let (mut keyed, plain) = (page_tray(200, 100), page_tray(200, 100));
+    let told = Told { key: 255, ..TOLD };
+    assert_eq!(cut(told, STAMP, &[200], &[100], &mut keyed), 0);
+    for keeper in 1..=6 {
+        forge_word(slot(&mut keyed, keeper), 0, 13, 0);
+    }
+    assert!(keyed == plain);
+    assert_eq!(cut(Told { key: 256, ..TOLD }, STAMP, &[200], &[100], &mut keyed), 1);
+}
+
+#[test]
+fn inputs_that_end_before_the_tray() {
+    let short: [(&[u8], &str); 6] = [
+        (&[], "answer 4\n"),
+        (&[1, 1], "answer 4\n"),
+        (&[1, 1, 6], "answer 4\n"),
+        (&[1, 1, 5], "answer 1\n"),
+        (&[1, 1, 6, 0], "answer 4\n"),
+        (&[1, 1, 5, 0], "answer 1\n"),
+    ];
+    for (input, text) in short {
+        assert_eq!(String::from_utf8(report(input)).as_deref(), Ok(text), "{input:?}");
+    }
+}
+
 #[test]
 fn the_report_of_the_page() {
     let mut tray = page_tray(200, 100);
     lie(slot(&mut tray, 3), 0, 0);
     slot(&mut tray, 6).fill(0);
-    let text = "stamp 7 length 1\n\
+    let text = "key 0 stamp 7 length 1\n\
                 keeper 1 agrees\n\
                 keeper 2 agrees\n\
                 keeper 3 differs\n\
@@ -166,7 +195,7 @@ fn the_report_of_the_page() {
                 keeper 6 absent\n\
                 usable 5 need 4 agree 4\n\
                 answer 0\n";
-    let written = report(&[&[1, 1, 6], tray.as_slice()].concat());
+    let written = report(&[&[1, 1, 6, 0], tray.as_slice()].concat());
     assert_eq!(String::from_utf8(written).as_deref(), Ok(text));
 }
 
@@ -190,26 +219,26 @@ fn picked(number: u32, stamp: u32, length: u32) -> Picked {
 #[test]
 fn the_pick_goes_down_to_what_joins() {
     let newer = two_groups([43, 143, 243, 86, 186, 29]);
-    assert_eq!(pick(ORDER, &newer), picked(0, 9, 1));
+    assert_eq!(pick(TOLD, &newer), picked(0, 9, 1));
     let spoiled = two_groups([43, 143, 243, 86, 186, 0]);
-    assert_eq!(pick(ORDER, &spoiled), picked(0, 7, 1));
+    assert_eq!(pick(TOLD, &spoiled), picked(0, 7, 1));
     let beyond = two_groups([43, 143, 243, 3, 4, 5]);
-    assert_eq!(pick(ORDER, &beyond), picked(0, 7, 1));
+    assert_eq!(pick(TOLD, &beyond), picked(0, 7, 1));
 }
 
 #[test]
 fn the_pick_of_groups_that_do_not_join() {
-    assert_eq!(pick(ORDER, &two_groups([43, 143, 0, 86, 186, 0])), picked(7, 9, 1));
-    assert_eq!(pick(ORDER, &two_groups([43, 143, 0, 3, 4, 5])), picked(8, 9, 1));
-    assert_eq!(pick(ORDER, &two_groups([0, 1, 2, 86, 186, 0])), picked(7, 9, 1));
+    assert_eq!(pick(TOLD, &two_groups([43, 143, 0, 86, 186, 0])), picked(7, 9, 1));
+    assert_eq!(pick(TOLD, &two_groups([43, 143, 0, 3, 4, 5])), picked(8, 9, 1));
+    assert_eq!(pick(TOLD, &two_groups([0, 1, 2, 86, 186, 0])), picked(7, 9, 1));
     let mut few = two_groups([43, 143, 243, 86, 186, 29]);
     [1, 6].into_iter().for_each(|keeper| slot(&mut few, keeper).fill(0));
-    assert_eq!(pick(ORDER, &few), picked(6, 0, 0));
+    assert_eq!(pick(TOLD, &few), picked(6, 0, 0));
 }
 
 #[test]
 fn the_report_of_groups_that_do_not_join() {
-    let text = "stamp 9 length 1\n\
+    let text = "key 0 stamp 9 length 1\n\
                 keeper 1 absent\n\
                 keeper 2 absent\n\
                 keeper 3 absent\n\
@@ -219,6 +248,6 @@ fn the_report_of_groups_that_do_not_join() {
                 usable 3 need 3 agree 0\n\
                 answer 7\n";
     let tray = two_groups([43, 143, 0, 86, 186, 0]);
-    let written = report(&[&[1, 1, 6], tray.as_slice()].concat());
+    let written = report(&[&[1, 1, 6, 0], tray.as_slice()].concat());
     assert_eq!(String::from_utf8(written).as_deref(), Ok(text));
 }

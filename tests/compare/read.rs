@@ -7,6 +7,7 @@ use second::order::{Order, SLOT};
 use second::peer::Peer;
 use second::random::Random;
 use second::tally::Tally;
+use second::told::Told;
 
 /// Lengths of one, two, three and four blocks, the last block full, nearly empty and in between.
 const ONE_TO_FOUR_BLOCKS: [usize; 5] = [1, 300, 476, 700, 952];
@@ -29,13 +30,14 @@ impl Readers {
     }
 }
 
-/// The eight numbers of the call.
-fn numbers(slot: &[u8]) -> [u32; 8] {
+/// The nine numbers of the call.
+fn numbers(slot: &[u8]) -> [u32; 9] {
     match Letter::read(slot) {
-        Ok(Letter { head: Head { order: Order { t, f, n }, keeper, stamp, length }, .. }) => {
-            [0, 0, t, f, n, keeper, stamp, length]
+        Ok(Letter { head: Head { told, keeper, stamp, length }, .. }) => {
+            let Told { order: Order { t, f, n }, key } = told;
+            [0, 0, t, f, n, key, keeper, stamp, length]
         }
-        Err(Fault { number, place }) => [number, place, 0, 0, 0, 0, 0, 0],
+        Err(Fault { number, place }) => [number, place, 0, 0, 0, 0, 0, 0, 0],
     }
 }
 
@@ -60,11 +62,25 @@ fn good_letters_of_every_order_and_keeper() {
     let (random, mut readers) = (&Random::new(2), Readers::start());
     for order in Order::all() {
         for keeper in 1..=order.n {
-            let head = Head { order, keeper, ..cases::head(random) };
+            let head = Head { told: cases::told_of(order, random), keeper, ..cases::head(random) };
             readers.same(&cases::letter_of(head, random).slot());
         }
     }
     readers.tally.expect(1800, &[0]);
+}
+
+#[test]
+fn good_letters_of_every_key() {
+    let (random, mut readers) = (&Random::new(20), Readers::start());
+    for key in 0..=255 {
+        for length in ONE_TO_FOUR_BLOCKS {
+            let head = cases::head(random);
+            let told = Told { key, ..head.told };
+            let head = Head { told, length: length as u32, ..head };
+            readers.same(&cases::letter_of(head, random).slot());
+        }
+    }
+    readers.tally.expect(1280, &[0]);
 }
 
 #[test]
@@ -290,15 +306,18 @@ fn blocks_of_two_letters_mixed() {
     let (random, mut readers) = (&Random::new(16), Readers::start());
     for round in 0..2000 {
         let length = 239 + random.below(714) as u32;
-        let head = Head { length, order: Order::new(1, 0, 9), ..cases::head(random) };
+        let key = cases::key(random);
+        let of = |t, f, n| Told::new(Order::new(t, f, n), key);
+        let head = Head { length, told: of(1, 0, 9), ..cases::head(random) };
         let head = Head { keeper: random.between(1, 9), ..head };
-        let other = match round % 8 {
-            0 => Head { order: Order::new(2, 0, 9), ..head },
-            1 => Head { order: Order::new(1, 1, 9), ..head },
-            2 => Head { order: Order::new(1, 0, 10), ..head },
+        let other = match round % 9 {
+            0 => Head { told: of(2, 0, 9), ..head },
+            1 => Head { told: of(1, 1, 9), ..head },
+            2 => Head { told: of(1, 0, 10), ..head },
             3 => Head { keeper: head.keeper % 9 + 1, ..head },
             4 => Head { stamp: head.stamp ^ 1 << random.below(32), ..head },
             5 => Head { length: 952 - (length - 239), ..head },
+            6 => Head { told: Told { key: cases::other_key(key, random), ..head.told }, ..head },
             _ => head,
         };
         let other = Head { stamp: other.stamp.max(1), ..other };
@@ -340,15 +359,15 @@ fn zeros_and_random_bytes() {
 fn random_words_with_good_checks() {
     let (random, mut readers) = (&Random::new(19), Readers::start());
     for _ in 0..2000 {
-        let mut slot = vec![0; SLOT];
+        let (mut slot, key) = (vec![0; SLOT], cases::key(random));
         for place in 0..4 {
             for word in 0..256 {
                 set_word(&mut slot, place, word, random.between(0, 256));
             }
             let front = [81, 1, random.between(1, 7), random.between(0, 1), random.between(6, 16)];
-            let back = [random.between(0, 3), random.between(0, 255), random.below(8) as u32 / 7];
+            let back = [random.between(0, 3), random.between(0, 255)];
             for (word, &value) in
-                (0..).zip(&front).chain((10..).zip(&back)).chain((12..).zip(&[0; 4]))
+                (0..).zip(&front).chain((10..).zip(&back)).chain((12..).zip(&[0, key, 0, 0]))
             {
                 set_word(&mut slot, place, word, value);
             }

@@ -7,7 +7,7 @@ use std::os::unix::net::UnixStream;
 use std::process::{Command, Output, Stdio};
 use std::thread;
 
-use second::cases::{self, Tray};
+use second::cases::{self, Tray, KEYS};
 use second::damage::{exchange_slot, lie, slot};
 use second::groups::Groups;
 use second::order::{Order, SLOT};
@@ -16,6 +16,7 @@ use second::pick::Picked;
 use second::random::Random;
 use second::report::report;
 use second::tally::Tally;
+use second::told::Told;
 
 const UNREAD: &str = "report: standard input cannot be read\n";
 const UNWRITTEN: &str = "report: standard output cannot be written\n";
@@ -87,29 +88,38 @@ impl Reports {
         self.same_in_pieces(input, input.len().max(1));
     }
 
-    fn same_tray(&mut self, order: Order, tray: &[u8]) {
-        self.same(&input(order, tray));
+    fn same_tray(&mut self, told: Told, tray: &[u8]) {
+        self.same(&input(told, tray));
+    }
+
+    /// An input of which all that its report says is known.
+    fn right(&mut self, input: &[u8], text: &str) {
+        assert_eq!(String::from_utf8(report(input)).as_deref(), Ok(text), "{} bytes", input.len());
+        self.same(input);
     }
 
     /// A tray with these groups, of which it is known what its report begins and ends with.
     fn same_groups(&mut self, groups: &Groups, random: &Random) {
-        let input = input(groups.order, &groups.tray(random));
+        let input = input(groups.told, &groups.tray(random));
         let Picked { number, stamp, length } = groups.picked();
         let text = String::from_utf8(report(&input)).expect("the report is text");
-        let named = text.starts_with(&format!("stamp {stamp} length {length}\n"));
+        let key = groups.told.key;
+        let named = text.starts_with(&format!("key {key} stamp {stamp} length {length}\n"));
         assert_eq!(named, number != 6, "{groups:?}");
         assert!(text.ends_with(&format!("answer {number}\n")), "{groups:?}");
         self.same(&input);
     }
 }
 
-fn input(order: Order, tray: &[u8]) -> Vec<u8> {
-    let front = [order.t, order.f, order.n].map(|number| number as u8);
+fn input(told: Told, tray: &[u8]) -> Vec<u8> {
+    let Told { order: Order { t, f, n }, key } = told;
+    let front = [t, f, n, key].map(|number| number as u8);
     [&front, tray].concat()
 }
 
 fn any_tray(order: Order, random: &Random) -> Tray {
-    Tray::cut(order, cases::stamp(random), 1 + random.below(30), random)
+    let (told, stamp) = (cases::told_of(order, random), cases::stamp(random));
+    Tray::cut(told, stamp, 1 + random.below(30), random)
 }
 
 fn lie_everywhere(tray: &mut Tray, keeper: u32, more: u32) {
@@ -129,9 +139,9 @@ fn every_order_with_liars_and_empty_slots() {
                 _ => {}
             }
         }
-        reports.same_tray(order, &tray.bytes);
+        reports.same_tray(tray.told, &tray.bytes);
     }
-    reports.tally.expect(162, &[0, 7]);
+    reports.tally.expect(162, &[0, 6, 7]);
 }
 
 #[test]
@@ -145,7 +155,7 @@ fn too_many_liars() {
             lie_everywhere(&mut tray, keeper, keeper);
         }
         slot(&mut tray.bytes, order.n)[7] ^= 1;
-        reports.same_tray(order, &tray.bytes);
+        reports.same_tray(tray.told, &tray.bytes);
     }
     reports.tally.expect(40, &[7]);
 }
@@ -155,12 +165,13 @@ fn constants_of_256() {
     let random = &Random::new(93);
     let mut reports = Reports::default();
     for order in Order::all().into_iter().step_by(4) {
-        let mut tray = Tray::cut(order, cases::stamp(random), 1, random);
+        let (told, stamp) = (cases::told_of(order, random), cases::stamp(random));
+        let mut tray = Tray::cut(told, stamp, 1, random);
         tray.move_to_256(0);
         for keeper in 1..=random.between(0, order.f) {
             lie_everywhere(&mut tray, keeper, 1);
         }
-        reports.same_tray(order, &tray.bytes);
+        reports.same_tray(told, &tray.bytes);
     }
     reports.tally.expect(40, &[8]);
 }
@@ -171,16 +182,74 @@ fn two_cuts_in_one_tray() {
     let random = &Random::new(94);
     let mut reports = Reports::default();
     for order in Order::all().into_iter().step_by(2) {
-        let mut tray = Tray::cut(order, 40, 1 + random.below(300), random);
-        let other = Tray::cut(order, random.between(39, 41), 1 + random.below(300), random);
+        let told = cases::told_of(order, random);
+        let mut tray = Tray::cut(told, 40, 1 + random.below(300), random);
+        let other = Tray::cut(told, random.between(39, 41), 1 + random.below(300), random);
         for keeper in 1..=order.n {
             if random.once_in(2) {
                 exchange_slot(&mut tray.bytes, &other.bytes, keeper);
             }
         }
-        reports.same_tray(order, &tray.bytes);
+        reports.same_tray(told, &tray.bytes);
     }
     reports.tally.expect(81, &[0, 6]);
+}
+
+/// The report on a cut of which these keepers' letters are there, and all of them are as they were cut.
+fn sound(tray: &Tray, present: &[u32]) -> String {
+    let Told { order, key } = tray.told;
+    let m = present.len() as u32;
+    if m < order.fewest() {
+        return "answer 6\n".into();
+    }
+    let state = |keeper: u32| if present.contains(&keeper) { "agrees" } else { "absent" };
+    let line = |keeper| format!("keeper {keeper} {}\n", state(keeper));
+    let lines: String = (1..=order.n).map(line).collect();
+    let need = order.fewest().max(m.saturating_sub(order.f));
+    let named = format!("key {key} stamp {} length {}", tray.stamp, tray.length());
+    format!("{named}\n{lines}usable {m} need {need} agree {m}\nanswer 0\n")
+}
+
+#[test]
+fn keys_of_one_to_three_digits() {
+    let random = &Random::new(108);
+    let mut reports = Reports::default();
+    for key in [0, 1, 7, 9, 10, 99, 100, 199, 200, 254, 255] {
+        let order = cases::order(random);
+        let tray = Tray::cut(Told::new(order, key), cases::stamp(random), 3, random);
+        let keepers: Vec<u32> = (1..=order.n).collect();
+        reports.right(&input(tray.told, &tray.bytes), &sound(&tray, &keepers));
+    }
+    reports.tally.expect(11, &[0]);
+}
+
+/// Letters of two keys in one tray, once in two under one stamp and length. To each key the others are
+/// absent, and to a third one all are.
+#[test]
+fn two_keys_in_one_tray() {
+    let random = &Random::new(109);
+    let mut reports = Reports::default();
+    for order in Order::all().into_iter().step_by(3) {
+        let mut tray = any_tray(order, random);
+        let told = Told { key: cases::other_key(tray.told.key, random), ..tray.told };
+        let stamp = if random.once_in(2) { tray.stamp } else { cases::stamp(random) };
+        let other = Tray::cut(told, stamp, tray.secret.len(), random);
+        let (mut own, mut others) = (Vec::new(), Vec::new());
+        for keeper in 1..=order.n {
+            if random.once_in(2) {
+                exchange_slot(&mut tray.bytes, &other.bytes, keeper);
+                others.push(keeper);
+            } else {
+                own.push(keeper);
+            }
+        }
+        reports.right(&input(tray.told, &tray.bytes), &sound(&tray, &own));
+        reports.right(&input(told, &tray.bytes), &sound(&other, &others));
+        let third = (0..=255).find(|&key| ![tray.told.key, told.key].contains(&key));
+        let third = Told { key: third.expect("there are 256"), ..told };
+        reports.right(&input(third, &tray.bytes), "answer 6\n");
+    }
+    reports.tally.expect(162, &[0, 6]);
 }
 
 /// Two groups for each pair of numbers that their joins can give. The report is of the first that joins;
@@ -193,7 +262,8 @@ fn two_groups_of_every_number() {
     for order in orders.step_by(9) {
         for greater in [0, 6, 7, 8] {
             for less in [0, 6, 7, 8] {
-                let groups = Groups::large(order, &[greater, less], random);
+                let told = cases::told_of(order, random);
+                let groups = Groups::large(told, &[greater, less], random);
                 reports.same_groups(&groups, random);
                 reports.same_groups(&groups.of_one_stamp(random), random);
             }
@@ -208,7 +278,8 @@ fn eight_groups() {
     let random = &Random::new(100);
     let mut reports = Reports::default();
     for first in 0..=8 {
-        reports.same_groups(&Groups::first_joins(Order::new(1, 0, 16), 8, first, random), random);
+        let told = cases::told_of(Order::new(1, 0, 16), random);
+        reports.same_groups(&Groups::first_joins(told, 8, first, random), random);
     }
     reports.tally.expect(9, &[0, 8]);
 }
@@ -220,9 +291,10 @@ fn the_longest_secrets_and_the_greatest_numbers() {
     for (t, f) in [(3, 3), (7, 2), (1, 0)] {
         for (stamp, length) in [(u32::MAX, 952), (1_000_000_000, 100), (999_999_999, 99), (10, 10)]
         {
-            let mut tray = Tray::cut(Order::new(t, f, 16), stamp, length, random);
+            let told = cases::told_of(Order::new(t, f, 16), random);
+            let mut tray = Tray::cut(told, stamp, length, random);
             (1..=f).for_each(|keeper| lie_everywhere(&mut tray, keeper, 5));
-            reports.same_tray(tray.order, &tray.bytes);
+            reports.same_tray(told, &tray.bytes);
         }
     }
     reports.tally.expect(12, &[0]);
@@ -233,16 +305,36 @@ fn inputs_of_a_wrong_length() {
     let random = &Random::new(96);
     let mut reports = Reports::default();
     for order in [Order::new(1, 1, 6), Order::new(1, 0, 2), Order::new(3, 3, 16)] {
-        let whole = input(order, &any_tray(order, random).bytes);
+        let tray = any_tray(order, random);
+        let whole = input(tray.told, &tray.bytes);
         let size = whole.len();
-        for size in [0, 1, 2, 3, 4, 1000, 3 + SLOT, size - SLOT, size - 2, size - 1] {
-            reports.same(&whole[..size]);
+        for size in [0, 1, 2, 3, 4, 5, 1000, 4 + SLOT, size - SLOT, size - 2, size - 1] {
+            reports.right(&whole[..size], "answer 4\n");
         }
         for more in [1, 2, SLOT, 100_000] {
-            reports.same(&[whole.as_slice(), &vec![0; more]].concat());
+            reports.right(&[whole.as_slice(), &vec![0; more]].concat(), "answer 4\n");
         }
     }
-    reports.tally.expect(42, &[4]);
+    reports.tally.expect(45, &[4]);
+}
+
+/// Three bytes are an order, and are judged whether or not a key follows them.
+#[test]
+fn inputs_of_few_bytes() {
+    let random = &Random::new(107);
+    let mut reports = Reports::default();
+    for [t, f, n] in [[1, 1, 6], [1, 0, 2], [3, 3, 16], [7, 2, 16]] {
+        let few = t + 4 * f;
+        for bytes in [[t, f, n], [0, f, n], [8, f, n], [t, t + 1, n], [t, f, few], [t, f, 17]] {
+            let whole = [&bytes[..], &[*random.choose(&KEYS) as u8]].concat();
+            for size in 0..=4 {
+                let lawful = bytes == [t, f, n];
+                let number = if size < 3 || lawful { 4 } else { 1 };
+                reports.right(&whole[..size], &format!("answer {number}\n"));
+            }
+        }
+    }
+    reports.tally.expect(120, &[1, 4]);
 }
 
 /// An unlawful order is 1, whatever else is wrong with the input.
@@ -252,13 +344,13 @@ fn unlawful_orders() {
     let mut reports = Reports::default();
     for _ in 0..40 {
         let [t, f, n] = [random.between(0, 9), random.between(0, 4), random.between(0, 20)];
-        let order = Order::new(t, f, n);
-        let right = random.bytes(order.tray());
-        reports.same_tray(order, &right);
-        reports.same_tray(order, &right[..right.len() / 2]);
+        let told = cases::told_of(Order::new(t, f, n), random);
+        let right = random.bytes(told.order.tray());
+        reports.same_tray(told, &right);
+        reports.same_tray(told, &right[..right.len() / 2]);
     }
     for bytes in [[255; 3], [0; 3], [1, 0, 255], [255, 0, 16], [1, 255, 16]] {
-        reports.same(&bytes);
+        reports.right(&bytes, "answer 1\n");
     }
     reports.tally.expect(85, &[1, 4, 6]);
 }
@@ -268,8 +360,8 @@ fn an_input_that_comes_in_pieces() {
     let random = &Random::new(98);
     let mut reports = Reports::default();
     for piece in [1, 2, 3, 4, 7, 100, 511, 2048, 2051, 4096, 5000] {
-        let order = Order::new(1, 1, 7);
-        reports.same_in_pieces(&input(order, &any_tray(order, random).bytes), piece);
+        let tray = any_tray(Order::new(1, 1, 7), random);
+        reports.same_in_pieces(&input(tray.told, &tray.bytes), piece);
     }
     reports.tally.expect(11, &[0]);
 }
@@ -366,12 +458,12 @@ fn words() {
 
 /// The input of the page's example.
 fn example() -> Vec<u8> {
-    let order = Order::new(1, 1, 6);
-    let mut tray = vec![0; order.tray()];
-    assert_eq!(second::cut::cut(order, 7, &[200], &[100], &mut tray), 0);
+    let told = Told::new(Order::new(1, 1, 6), 0);
+    let mut tray = vec![0; told.order.tray()];
+    assert_eq!(second::cut::cut(told, 7, &[200], &[100], &mut tray), 0);
     lie(slot(&mut tray, 3), 0, 0);
     slot(&mut tray, 6).fill(0);
-    input(order, &tray)
+    input(told, &tray)
 }
 
 #[test]

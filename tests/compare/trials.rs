@@ -39,7 +39,8 @@ struct Made {
 impl Made {
     /// A cut of which some letters are missing and some lie. Once in three a constant is 256.
     fn cut(order: Order, absent: &[u32], liars: &[u32], random: &Random) -> Made {
-        let mut tray = Tray::cut(order, cases::stamp(random), 4 + random.below(5), random);
+        let (told, stamp) = (cases::told_of(order, random), cases::stamp(random));
+        let mut tray = Tray::cut(told, stamp, 4 + random.below(5), random);
         let number = if random.once_in(3) { 8 } else { 0 };
         if number == 8 {
             tray.move_to_256(random.below(tray.secret.len()));
@@ -55,11 +56,11 @@ impl Made {
 
     /// How many sets of t+1 usable keepers there are.
     fn sets(&self) -> u32 {
-        sets_up_to(&[], &self.usable, self.tray.order.t + 1)
+        sets_up_to(&[], &self.usable, self.tray.told.order.t + 1)
     }
 
     fn joined(&self) -> Joined {
-        let (order, usable) = (self.tray.order, self.usable.len() as u32);
+        let (order, usable) = (self.tray.told.order, self.usable.len() as u32);
         let need = usable - order.borne(usable);
         if (self.agreeing.len() as u32) < need {
             return Joined { number: 7, usable, need, set: 0, trials: self.sets() };
@@ -83,14 +84,14 @@ impl Counts {
     }
 
     fn same(&mut self, made: &Made) -> Joined {
-        let Tray { order, stamp, ref secret, ref bytes } = made.tray;
+        let Tray { told, stamp, ref secret, ref bytes } = made.tray;
         let (length, joined) = (made.tray.length(), made.joined());
         let (mut room, mut left) = (vec![0xcc; secret.len()], vec![0xcc; secret.len()]);
         let expected = if joined.number == 0 { secret.clone() } else { room.clone() };
-        assert_eq!(self.peer.join(order, stamp, length, bytes, &mut left), joined, "{order:?}");
-        assert_eq!(join(order, stamp, length, bytes, &mut room), joined, "{order:?}");
-        assert!(left == expected && room == expected, "{order:?}");
-        assert!(joined.trials <= made.sets() && made.sets() <= MOST, "{order:?}");
+        assert_eq!(self.peer.join(told, stamp, length, bytes, &mut left), joined, "{told:?}");
+        assert_eq!(join(told, stamp, length, bytes, &mut room), joined, "{told:?}");
+        assert!(left == expected && room == expected, "{told:?}");
+        assert!(joined.trials <= made.sets() && made.sets() <= MOST, "{told:?}");
         self.tally.add(joined.number);
         joined
     }
@@ -183,7 +184,7 @@ fn two_cuts_in_one_tray() {
         let liars = random.between(0, order.borne(usable) + 1);
         let (liars, agreeing) = place.part(&present, liars, random);
         let mut made = Made::cut(order, &absent, &[], random);
-        let other = Tray::cut(order, made.tray.stamp, made.tray.secret.len(), random);
+        let other = Tray::cut(made.tray.told, made.tray.stamp, made.tray.secret.len(), random);
         liars.iter().for_each(|&liar| exchange_slot(&mut made.tray.bytes, &other.bytes, liar));
         counts.same(&Made { agreeing, ..made });
     }

@@ -230,8 +230,8 @@ fn bytes_cut_as_words() {
         let constants = secret.iter().map(|&byte| u16::from(byte)).collect();
         let lent = Lent::of(order, constants, random);
         let rows = cutters.same(&lent);
-        let mut tray = vec![0; order.tray()];
-        assert_eq!(cutters.peer.cut(order, stamp, &secret, &lent.words, &mut tray), 0);
+        let (told, mut tray) = (cases::told_of(order, random), vec![0; order.tray()]);
+        assert_eq!(cutters.peer.cut(told, stamp, &secret, &lent.words, &mut tray), 0);
         for (row, keeper) in rows.chunks(secret.len()).zip(1..) {
             let letter = slot(&mut tray, keeper);
             let same = |(place, &word): (usize, &u16)| share(letter, place) == u32::from(word);
@@ -247,7 +247,7 @@ fn share_words_cut_again() {
     let (random, mut cutters) = (&Random::new(91), Cutters::start());
     let mut largest = 0;
     for order in Order::all() {
-        let mut tray = Tray::cut(cases::order(random), 1, LONGEST, random);
+        let mut tray = Tray::cut(cases::told(random), 1, LONGEST, random);
         let letter = slot(&mut tray.bytes, 1);
         let constants: Vec<u16> = (0..LONGEST).map(|place| share(letter, place) as u16).collect();
         largest += constants.iter().filter(|&&word| word == 256).count();

@@ -13,7 +13,7 @@ uint32_t inner_cut_words(uint32_t t, uint32_t f, uint32_t n, const uint16_t *con
                          const uint16_t *random, size_t random_count, uint16_t *rows, size_t room);
 uint16_t inner_share_word(uint16_t constant, const uint16_t *coefficients, size_t count, uint16_t x);
 
-enum { NUMBERS = 5, PARTS = 3, RESULTS = 8, GUARD = 64, GUARD_BYTE = 0xa5, LARGEST = 1 << 18 };
+enum { NUMBERS = 6, PARTS = 3, RESULTS = 9, GUARD = 64, GUARD_BYTE = 0xa5, LARGEST = 1 << 18 };
 
 static struct {
     uint32_t call;
@@ -61,15 +61,16 @@ static void answer_read(const uint8_t *slot, size_t size) {
     result[2] = r.t;
     result[3] = r.f;
     result[4] = r.n;
-    result[5] = r.keeper;
-    result[6] = r.stamp;
-    result[7] = r.length;
+    result[5] = r.key;
+    result[6] = r.keeper;
+    result[7] = r.stamp;
+    result[8] = r.length;
 }
 
 static void answer_join(const uint32_t *number, const uint8_t *tray, size_t size, uint8_t *room,
                         size_t room_size) {
-    cs_join_result r = cs_join(number[0], number[1], number[2], number[3], number[4], tray, size,
-                               room, room_size);
+    cs_join_result r = cs_join(number[0], number[1], number[2], number[3], number[4], number[5],
+                               tray, size, room, room_size);
     result[0] = r.number;
     result[1] = r.usable;
     result[2] = r.need;
@@ -79,14 +80,14 @@ static void answer_join(const uint32_t *number, const uint8_t *tray, size_t size
 
 static void answer_store(const uint32_t *number, uint8_t *held, size_t held_size,
                          const uint8_t *letter, size_t size) {
-    cs_store_result r = cs_store(number[0], number[1], number[2], number[3], held, held_size,
-                                 letter, size);
+    cs_store_result r = cs_store(number[0], number[1], number[2], number[3], number[4], held,
+                                 held_size, letter, size);
     result[0] = r.number;
     result[1] = r.place;
 }
 
 static void answer_pick(const uint32_t *number, const uint8_t *tray, size_t size) {
-    cs_pick_result r = cs_pick(number[0], number[1], number[2], tray, size);
+    cs_pick_result r = cs_pick(number[0], number[1], number[2], number[3], tray, size);
     result[0] = r.number;
     result[1] = r.stamp;
     result[2] = r.length;
@@ -112,13 +113,14 @@ static int answer(void) {
     switch (request.call) {
     case 0: answer_read(first, size[0]); return 1;
     case 1:
-        result[0] = cs_cut(number[0], number[1], number[2], number[3], first, size[0],
+        result[0] = cs_cut(number[0], number[1], number[2], number[3], number[4], first, size[0],
                            (const uint16_t *)second, size[1] / 2, third, size[2]);
         return 1;
     case 2: answer_join(number, first, size[0], second, size[1]); return 1;
     case 3: answer_store(number, first, size[0], second, size[1]); return 1;
     case 4:
-        result[0] = cs_fetch(number[0], number[1], number[2], number[3], first, size[0]);
+        result[0] = cs_fetch(number[0], number[1], number[2], number[3], number[4], first,
+                             size[0]);
         return 1;
     case 5: answer_pick(number, first, size[0]); return 1;
     case 6: answer_compare(number, first, second, (cs_difference *)third, size); return 1;

@@ -6,17 +6,45 @@ use crate::field::add;
 use crate::letter::{Head, Letter};
 use crate::order::{Order, LONGEST};
 use crate::random::Random;
+use crate::told::Told;
 
 /// Around the ends of each block's share words.
 pub const LENGTHS: [usize; 10] = [1, 2, 237, 238, 239, 476, 477, 715, 951, 952];
 
 pub const STAMPS: [u32; 8] = [1, 2, 255, 256, 0x0001_0000, 0x00ff_ffff, u32::MAX - 1, u32::MAX];
 
+/// Both ends of the keys, and some between.
+pub const KEYS: [u32; 4] = [0, 1, 7, 255];
+
+/// Numbers of no key. The low byte of each is one of the keys above.
+pub const NO_KEYS: [u32; 7] = [256, 257, 263, 511, 65_536, 0x8000_0000, u32::MAX];
+
 /// Numbers that fit the type and nothing else.
 pub const FAR: [u32; 8] = [17, 255, 256, 65_536, 0x3fff_ffff, 0x4000_0000, 0x8000_0000, u32::MAX];
 
 pub fn order(random: &Random) -> Order {
     *random.choose(&Order::all())
+}
+
+pub fn key(random: &Random) -> u32 {
+    match random.below(3) {
+        0 => random.between(0, 255),
+        _ => *random.choose(&KEYS),
+    }
+}
+
+/// Another key than this one.
+pub fn other_key(key: u32, random: &Random) -> u32 {
+    key ^ *random.choose(&[1, 255, random.between(1, 255)])
+}
+
+/// This order, and some key.
+pub fn told_of(order: Order, random: &Random) -> Told {
+    Told::new(order, key(random))
+}
+
+pub fn told(random: &Random) -> Told {
+    told_of(order(random), random)
 }
 
 /// Of all four numbers of blocks alike.
@@ -36,9 +64,9 @@ pub fn stamp(random: &Random) -> u32 {
 }
 
 pub fn head(random: &Random) -> Head {
-    let order = order(random);
-    let keeper = random.between(1, order.n);
-    Head { order, keeper, stamp: stamp(random), length: length(random) as u32 }
+    let told = told(random);
+    let keeper = random.between(1, told.order.n);
+    Head { told, keeper, stamp: stamp(random), length: length(random) as u32 }
 }
 
 pub fn letter_of(head: Head, random: &Random) -> Letter {
@@ -53,19 +81,19 @@ pub fn letter(random: &Random) -> Letter {
 /// A secret cut, and all that it was cut with.
 #[derive(Clone)]
 pub struct Tray {
-    pub order: Order,
+    pub told: Told,
     pub stamp: u32,
     pub secret: Vec<u8>,
     pub bytes: Vec<u8>,
 }
 
 impl Tray {
-    pub fn cut(order: Order, stamp: u32, length: usize, random: &Random) -> Tray {
+    pub fn cut(told: Told, stamp: u32, length: usize, random: &Random) -> Tray {
         let secret = random.bytes(length);
-        let words = random.words(length * order.t as usize);
-        let mut bytes = vec![0; order.tray()];
-        assert_eq!(cut(order, stamp, &secret, &words, &mut bytes), 0);
-        Tray { order, stamp, secret, bytes }
+        let words = random.words(length * told.order.t as usize);
+        let mut bytes = vec![0; told.order.tray()];
+        assert_eq!(cut(told, stamp, &secret, &words, &mut bytes), 0);
+        Tray { told, stamp, secret, bytes }
     }
 
     pub fn length(&self) -> u32 {
@@ -92,6 +120,6 @@ impl Tray {
     /// The same added to every keeper's word moves the constant alone: here to 256.
     pub fn move_to_256(&mut self, place: usize) {
         let more = 256 - u32::from(self.secret[place]);
-        (1..=self.order.n).for_each(|keeper| self.add_to(keeper, place, more));
+        (1..=self.told.order.n).for_each(|keeper| self.add_to(keeper, place, more));
     }
 }

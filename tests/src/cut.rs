@@ -3,10 +3,12 @@
 use crate::field::value;
 use crate::letter::{Head, Letter};
 use crate::order::{lawful_length, Order};
+use crate::told::Told;
 
 /// The number that this cut gets, 0 where it is done.
-fn refusal(order: Order, stamp: u32, secret: &[u8], random: &[u16], tray: &[u8]) -> u32 {
-    if !order.lawful() {
+fn refusal(told: Told, stamp: u32, secret: &[u8], random: &[u16], tray: &[u8]) -> u32 {
+    let order = told.order;
+    if !told.lawful() {
         1
     } else if !lawful_length(secret.len()) {
         2
@@ -21,10 +23,10 @@ fn refusal(order: Order, stamp: u32, secret: &[u8], random: &[u16], tray: &[u8])
     }
 }
 
-pub fn cut(order: Order, stamp: u32, secret: &[u8], random: &[u16], tray: &mut [u8]) -> u32 {
-    let number = refusal(order, stamp, secret, random, tray);
+pub fn cut(told: Told, stamp: u32, secret: &[u8], random: &[u16], tray: &mut [u8]) -> u32 {
+    let number = refusal(told, stamp, secret, random, tray);
     if number == 0 {
-        let slots = letters(order, stamp, secret, random);
+        let slots = letters(told, stamp, secret, random);
         tray.copy_from_slice(&slots.map(|letter| letter.slot()).collect::<Vec<_>>().concat());
     }
     number
@@ -32,16 +34,16 @@ pub fn cut(order: Order, stamp: u32, secret: &[u8], random: &[u16], tray: &mut [
 
 /// The letters of keepers 1 to n.
 fn letters<'a>(
-    order: Order,
+    told: Told,
     stamp: u32,
     secret: &'a [u8],
     random: &'a [u16],
 ) -> impl Iterator<Item = Letter> + 'a {
     let length = secret.len() as u32;
     let constants: Vec<u32> = secret.iter().map(|&byte| u32::from(byte)).collect();
-    (1..=order.n).map(move |keeper| Letter {
-        head: Head { order, keeper, stamp, length },
-        shares: shares(order.t as usize, &constants, random, keeper),
+    (1..=told.order.n).map(move |keeper| Letter {
+        head: Head { told, keeper, stamp, length },
+        shares: shares(told.order.t as usize, &constants, random, keeper),
     })
 }
 

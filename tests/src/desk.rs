@@ -1,11 +1,12 @@
 //! The keeper's desk: one held slot.
 
 use crate::letter::{Fault, Letter};
-use crate::order::{Order, SLOT};
+use crate::order::SLOT;
+use crate::told::Told;
 
 #[derive(Clone, Copy, Debug, PartialEq, Eq)]
 pub struct Desk {
-    pub order: Order,
+    pub told: Told,
     pub keeper: u32,
 }
 
@@ -17,11 +18,11 @@ pub struct Stored {
 
 impl Desk {
     fn lawful(self) -> bool {
-        self.order.lawful() && self.order.has_keeper(self.keeper)
+        self.told.lawful() && self.told.order.has_keeper(self.keeper)
     }
 
     fn is_for(self, letter: &Letter) -> bool {
-        letter.head.order == self.order && letter.head.keeper == self.keeper
+        letter.head.told == self.told && letter.head.keeper == self.keeper
     }
 
     /// The letter held; a slot that holds none for this desk counts as empty.

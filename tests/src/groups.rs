@@ -10,6 +10,7 @@ use crate::letter::{SHARES, SHARES_IN_BLOCK};
 use crate::order::{Order, LONGEST, SLOT};
 use crate::pick::Picked;
 use crate::random::Random;
+use crate::told::Told;
 
 /// What is to stand in a tray of one stamp and length.
 #[derive(Debug)]
@@ -25,7 +26,7 @@ struct Group {
 /// The groups of a tray, from the greatest down.
 #[derive(Debug)]
 pub struct Groups {
-    pub order: Order,
+    pub told: Told,
     groups: Vec<Group>,
 }
 
@@ -71,34 +72,34 @@ fn names(count: usize, random: &Random) -> Vec<(u32, u32)> {
 
 impl Groups {
     /// Groups of these sizes whose joins give these numbers, the greatest first.
-    pub fn new(order: Order, sizes: &[u32], wanted: &[u32], random: &Random) -> Groups {
+    pub fn new(told: Told, sizes: &[u32], wanted: &[u32], random: &Random) -> Groups {
         let names = names(sizes.len(), random);
         let group = |i| {
             let ((stamp, length), size, number) = (names[i], sizes[i], wanted[i]);
             assert!(
-                numbers(order, size).contains(&number),
-                "{order:?}: {size} cannot give {number}"
+                numbers(told.order, size).contains(&number),
+                "{told:?}: {size} cannot give {number}"
             );
             Group { stamp, length, size, number }
         };
-        Groups { order, groups: (0..sizes.len()).map(group).collect() }
+        Groups { told, groups: (0..sizes.len()).map(group).collect() }
     }
 
     /// Large groups whose joins give these numbers.
-    pub fn large(order: Order, numbers: &[u32], random: &Random) -> Groups {
-        Groups::new(order, &sizes(order, numbers.len(), random), numbers, random)
+    pub fn large(told: Told, numbers: &[u32], random: &Random) -> Groups {
+        Groups::new(told, &sizes(told.order, numbers.len(), random), numbers, random)
     }
 
     /// So many groups of which this one, counted from 0, is the first that joins, or none.
-    pub fn first_joins(order: Order, count: usize, first: usize, random: &Random) -> Groups {
-        let sizes = sizes(order, count, random);
-        let number = |(i, &size): (usize, &u32)| match numbers(order, size) {
+    pub fn first_joins(told: Told, count: usize, first: usize, random: &Random) -> Groups {
+        let sizes = sizes(told.order, count, random);
+        let number = |(i, &size): (usize, &u32)| match numbers(told.order, size) {
             [_, refusals @ ..] if i < first => *random.choose(refusals),
             _ if i == first => 0,
             any => *random.choose(any),
         };
         let numbers: Vec<u32> = sizes.iter().enumerate().map(number).collect();
-        Groups::new(order, &sizes, &numbers, random)
+        Groups::new(told, &sizes, &numbers, random)
     }
 
     /// The same under one stamp: they differ by length alone.
@@ -125,13 +126,13 @@ impl Groups {
 
     /// A tray with these groups, whose keepers are mixed.
     pub fn tray(&self, random: &Random) -> Vec<u8> {
-        let all = self.order.n as usize;
+        let all = self.told.order.n as usize;
         let mut keepers = random.sample(all, all).into_iter().map(|index| index as u32 + 1);
-        let mut tray = vec![0; self.order.tray()];
+        let mut tray = vec![0; self.told.order.tray()];
         for group in &self.groups {
             let own: Vec<u32> = keepers.by_ref().take(group.size as usize).collect();
             assert_eq!(own.len(), group.size as usize, "a keeper for each letter");
-            let letters = group.letters(self.order, &own, random);
+            let letters = group.letters(self.told, &own, random);
             own.iter().for_each(|&keeper| exchange_slot(&mut tray, &letters, keeper));
         }
         tray
@@ -140,9 +141,9 @@ impl Groups {
 
 impl Group {
     /// A tray that holds the letters of these keepers.
-    fn letters(&self, order: Order, keepers: &[u32], random: &Random) -> Vec<u8> {
-        let length = self.length as usize;
-        let mut cut = Tray::cut(order, self.stamp, length, random);
+    fn letters(&self, told: Told, keepers: &[u32], random: &Random) -> Vec<u8> {
+        let (order, length) = (told.order, self.length as usize);
+        let mut cut = Tray::cut(told, self.stamp, length, random);
         if self.number == 8 {
             cut.move_to_256(random.below(length));
         }
@@ -162,26 +163,29 @@ impl Group {
 
 /// Spoils a keeper's letter, so that it counts in no group; what its head says of stamp and length stays.
 fn spoil(cut: &mut Tray, keeper: u32, random: &Random) {
-    let (order, length) = (cut.order, cut.secret.len());
+    let (Told { order, key }, length) = (cut.told, cut.secret.len());
     let slot = slot(&mut cut.bytes, keeper);
     let blocks = length.div_ceil(SHARES_IN_BLOCK);
     let block = random.below(blocks);
     let mut forge_all = |word, value| (0..blocks).for_each(|i| forge_word(slot, i, word, value));
-    match random.below(9) {
-        // a good letter of another keeper, or of another order
+    match random.below(12) {
+        // a good letter of another keeper, of another key, or of another order
         0 => forge_all(5, keeper % order.n + 1),
-        1 => {
+        1 => forge_all(13, cases::other_key(key, random)),
+        2 => {
             let mut others = Order::all();
             others.retain(|&other| other != order && other.has_keeper(keeper));
             let other = random.choose(&others);
             (2..).zip([other.t, other.f, other.n]).for_each(|(word, value)| forge_all(word, value));
         }
-        2 => slot[block * BLOCK + 2 * SHARES + random.below(BLOCK - 2 * SHARES)] ^= 1,
-        3 => forge_word(slot, block, SHARES + random.below(200), 257),
-        4 => forge_word(slot, block, random.below(2), 82),
-        5 => forge_word(slot, block, 12 + random.below(4), 5),
-        6 if blocks > 1 => forge_word(slot, blocks - 1, 6 + random.below(6), 256),
-        7 if length < LONGEST => lie(slot, length, random.between(1, 256)),
+        3 => slot[block * BLOCK + 2 * SHARES + random.below(BLOCK - 2 * SHARES)] ^= 1,
+        4 => forge_word(slot, block, SHARES + random.below(200), 257),
+        5 => forge_word(slot, block, random.below(2), 82),
+        6 => forge_word(slot, block, *random.choose(&[12, 14, 15]), 5),
+        7 => forge_word(slot, block, 13, 256),
+        8 if blocks > 1 => forge_word(slot, blocks - 1, 13, cases::other_key(key, random)),
+        9 if blocks > 1 => forge_word(slot, blocks - 1, 6 + random.below(6), 256),
+        10 if length < LONGEST => lie(slot, length, random.between(1, 256)),
         _ if blocks < 4 => slot[SLOT - 1 - random.below(BLOCK)] = 1,
         _ => slot[block * BLOCK + 508 + random.below(4)] ^= 1,
     }

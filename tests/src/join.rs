@@ -2,8 +2,9 @@
 
 use crate::field::value;
 use crate::letter::{Head, Letter};
-use crate::order::{lawful_length, Order, SLOT};
+use crate::order::{lawful_length, SLOT};
 use crate::solve::{solve, subsets};
+use crate::told::Told;
 
 #[derive(Clone, Copy, Debug, Default, PartialEq, Eq)]
 pub struct Joined {
@@ -20,9 +21,10 @@ struct Agreement {
     constants: Vec<u32>,
 }
 
-pub fn join(order: Order, stamp: u32, length: u32, tray: &[u8], room: &mut [u8]) -> Joined {
+pub fn join(told: Told, stamp: u32, length: u32, tray: &[u8], room: &mut [u8]) -> Joined {
     let refused = |number| Joined { number, ..Joined::default() };
-    if !order.lawful() {
+    let order = told.order;
+    if !told.lawful() {
         return refused(1);
     }
     if !lawful_length(length as usize) {
@@ -34,7 +36,7 @@ pub fn join(order: Order, stamp: u32, length: u32, tray: &[u8], room: &mut [u8])
     if tray.len() != order.tray() || room.len() != length as usize {
         return refused(4);
     }
-    let letters = usable(order, stamp, length, tray);
+    let letters = usable(told, stamp, length, tray);
     let m = letters.len() as u32;
     let need = m.saturating_sub(order.f).max(order.fewest());
     let answer = |number, set, trials| Joined { number, usable: m, need, set, trials };
@@ -55,11 +57,11 @@ pub fn join(order: Order, stamp: u32, length: u32, tray: &[u8], room: &mut [u8])
 }
 
 /// The letters that can be used, in the order of their keepers.
-pub fn usable(order: Order, stamp: u32, length: u32, tray: &[u8]) -> Vec<Letter> {
+pub fn usable(told: Told, stamp: u32, length: u32, tray: &[u8]) -> Vec<Letter> {
     tray.chunks(SLOT)
         .zip(1..)
         .filter_map(|(slot, keeper)| {
-            let wanted = Head { order, keeper, stamp, length };
+            let wanted = Head { told, keeper, stamp, length };
             Letter::read(slot).ok().filter(|letter| letter.head == wanted)
         })
         .collect()

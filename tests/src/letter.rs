@@ -2,6 +2,7 @@
 
 use crate::block::{self, Words, BLOCK, WORDS};
 use crate::order::{lawful_length, Order, SLOT};
+use crate::told::Told;
 
 const MARK: u32 = 81;
 const EDITION: u32 = 1;
@@ -12,7 +13,7 @@ pub const SHARES_IN_BLOCK: usize = 238;
 
 #[derive(Clone, Copy, Debug, PartialEq, Eq)]
 pub struct Head {
-    pub order: Order,
+    pub told: Told,
     pub keeper: u32,
     pub stamp: u32,
     pub length: u32,
@@ -37,27 +38,27 @@ impl Head {
     }
 
     fn write(self, place: u32, words: &mut Words) {
-        let Head { order, keeper, stamp, length } = self;
+        let Head { told: Told { order, key }, keeper, stamp, length } = self;
         let front = [MARK, EDITION, order.t, order.f, order.n, keeper];
         let stamp = stamp.to_be_bytes().map(u32::from);
-        let back = [length / 256, length % 256, place];
+        let back = [length / 256, length % 256, place, key];
         words[..6].copy_from_slice(&front);
         words[6..10].copy_from_slice(&stamp);
-        words[10..13].copy_from_slice(&back);
+        words[10..14].copy_from_slice(&back);
     }
 
-    /// The head that a block's words tell, if they tell a lawful one.
-    fn told_by(words: &Words) -> Option<Head> {
+    /// The head that a block's words say, if they say a lawful one.
+    fn said_by(words: &Words) -> Option<Head> {
         let byte = |i: usize| u8::try_from(words[i]).ok();
-        let order = Order::new(words[2], words[3], words[4]);
+        let told = Told::new(Order::new(words[2], words[3], words[4]), words[13]);
         let keeper = words[5];
         let stamp = u32::from_be_bytes([byte(6)?, byte(7)?, byte(8)?, byte(9)?]);
         let length = u32::from_be_bytes([0, 0, byte(10)?, byte(11)?]);
-        let lawful = order.lawful()
-            && order.has_keeper(keeper)
+        let lawful = told.lawful()
+            && told.order.has_keeper(keeper)
             && stamp != 0
             && lawful_length(length as usize);
-        lawful.then_some(Head { order, keeper, stamp, length })
+        lawful.then_some(Head { told, keeper, stamp, length })
     }
 }
 
@@ -111,8 +112,8 @@ fn read_block(slot: &[u8], place: usize, first: Option<Head>) -> Result<Head, Fa
     if words[0] != MARK || words[1] != EDITION {
         return fault(11);
     }
-    let settled = words[12] == place && words[13..SHARES].iter().all(|&word| word == 0);
-    match Head::told_by(&words) {
+    let settled = words[12] == place && words[14..SHARES].iter().all(|&word| word == 0);
+    match Head::said_by(&words) {
         Some(head) if settled && first.is_none_or(|first| first == head) => Ok(head),
         _ => fault(12),
     }

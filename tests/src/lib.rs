@@ -6,11 +6,12 @@
 //! Everything here is written to be plainly right and not to be quick, save `fast`, which holds the
 //! best loops we know for the cut and the join, for a fair comparison of speed.
 //!
-//! Beside the rules stand the means to hold the proved library to them: `peer` calls it, `cases`,
-//! `groups` and `damage` make what it is called with, `document` reads what a page says of it, and
-//! `tally` counts the answers.
+//! Beside the rules stand the means to hold the proved library to them: `peer` calls it, `both` asks the
+//! two the same, `cases`, `groups` and `damage` make what they are asked, `document` reads what a page
+//! says of it, and `tally` counts the answers.
 
 pub mod block;
+pub mod both;
 pub mod cases;
 pub mod compare;
 pub mod cut;
@@ -29,3 +30,4 @@ pub mod random;
 pub mod report;
 pub mod solve;
 pub mod tally;
+pub mod told;

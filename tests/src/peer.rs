@@ -3,8 +3,8 @@
 //! The library is compiled for x86-64 alone. A process lets the same tests run beside it on any
 //! machine that can run it at all, emulated or not, and a call that crashed would be seen as one.
 //!
-//! A request is the call's number, whether empty parts are lent as NULL, five numbers and the sizes of
-//! three parts, then the parts. The reply is eight numbers, then each part as the call left it,
+//! A request is the call's number, whether empty parts are lent as NULL, six numbers and the sizes of
+//! three parts, then the parts. The reply is nine numbers, then each part as the call left it,
 //! between guards. `peer.c` is the other end.
 
 use std::io::{BufReader, Read, Write};
@@ -15,10 +15,11 @@ use crate::desk::{Desk, Stored};
 use crate::join::Joined;
 use crate::order::Order;
 use crate::pick::Picked;
+use crate::told::Told;
 
-const NUMBERS: usize = 5;
+const NUMBERS: usize = 6;
 const PARTS: usize = 3;
-const RESULTS: usize = 8;
+const RESULTS: usize = 9;
 const GUARD: usize = 64;
 const GUARD_BYTE: u8 = 0xa5;
 
@@ -122,8 +123,8 @@ impl Peer {
         part
     }
 
-    /// Number, place, t, f, n, keeper, stamp, length.
-    pub fn read(&mut self, slot: &[u8]) -> [u32; 8] {
+    /// Number, place, t, f, n, key, keeper, stamp, length.
+    pub fn read(&mut self, slot: &[u8]) -> [u32; RESULTS] {
         let Reply { numbers, left } = self.call(0, &[], &[slot]);
         assert!(left[0] == slot, "the slot is only lent to be read");
         numbers
@@ -131,15 +132,15 @@ impl Peer {
 
     pub fn cut(
         &mut self,
-        order: Order,
+        told: Told,
         stamp: u32,
         secret: &[u8],
         random: &[u16],
         tray: &mut [u8],
     ) -> u32 {
         let random = word_bytes(random);
-        let numbers = [order.t, order.f, order.n, stamp];
-        let Reply { numbers, left } = self.call(1, &numbers, &[secret, &random, tray]);
+        let told = numbers(told, [stamp]);
+        let Reply { numbers, left } = self.call(1, &told, &[secret, &random, tray]);
         assert!(left[0] == secret && left[1] == random, "both are only lent to be read");
         tray.copy_from_slice(&left[2]);
         numbers[0]
@@ -174,14 +175,14 @@ impl Peer {
 
     pub fn join(
         &mut self,
-        order: Order,
+        told: Told,
         stamp: u32,
         length: u32,
         tray: &[u8],
         room: &mut [u8],
     ) -> Joined {
-        let numbers = [order.t, order.f, order.n, stamp, length];
-        let Reply { numbers, left } = self.call(2, &numbers, &[tray, room]);
+        let told = numbers(told, [stamp, length]);
+        let Reply { numbers, left } = self.call(2, &told, &[tray, room]);
         assert!(left[0] == tray, "the tray is only lent to be read");
         room.copy_from_slice(&left[1]);
         let [number, usable, need, set, trials, ..] = numbers;
@@ -189,7 +190,8 @@ impl Peer {
     }
 
     pub fn store(&mut self, desk: Desk, held: &mut [u8], offered: &[u8]) -> Stored {
-        let Reply { numbers, left } = self.call(3, &told(desk), &[held, offered]);
+        let told = numbers(desk.told, [desk.keeper]);
+        let Reply { numbers, left } = self.call(3, &told, &[held, offered]);
         assert!(left[1] == offered, "the letter is only lent to be read");
         held.copy_from_slice(&left[0]);
         let [number, place, ..] = numbers;
@@ -197,14 +199,14 @@ impl Peer {
     }
 
     pub fn fetch(&mut self, desk: Desk, held: &[u8]) -> u32 {
-        let Reply { numbers, left } = self.call(4, &told(desk), &[held]);
+        let told = numbers(desk.told, [desk.keeper]);
+        let Reply { numbers, left } = self.call(4, &told, &[held]);
         assert!(left[0] == held, "the held slot is only lent to be read");
         numbers[0]
     }
 
-    pub fn pick(&mut self, order: Order, tray: &[u8]) -> Picked {
-        let numbers = [order.t, order.f, order.n];
-        let Reply { numbers, left } = self.call(5, &numbers, &[tray]);
+    pub fn pick(&mut self, told: Told, tray: &[u8]) -> Picked {
+        let Reply { numbers, left } = self.call(5, &numbers(told, []), &[tray]);
         assert!(left[0] == tray, "the tray is only lent to be read");
         let [number, stamp, length, ..] = numbers;
         Picked { number, stamp, length }
@@ -246,9 +248,10 @@ fn place_of(bytes: &[u8]) -> Difference {
     Difference { slot, block, word, first, second }
 }
 
-/// What a desk is told at each call.
-fn told(desk: Desk) -> [u32; 4] {
-    [desk.order.t, desk.order.f, desk.order.n, desk.keeper]
+/// What a call is told: what its letters are of, and then the rest.
+fn numbers<const REST: usize>(told: Told, rest: [u32; REST]) -> Vec<u32> {
+    let Told { order: Order { t, f, n }, key } = told;
+    [t, f, n, key].into_iter().chain(rest).collect()
 }
 
 impl Drop for Peer {

@@ -4,7 +4,8 @@ use std::collections::BTreeMap;
 
 use crate::join::join;
 use crate::letter::Letter;
-use crate::order::{Order, SLOT};
+use crate::order::SLOT;
+use crate::told::Told;
 
 #[derive(Clone, Copy, Debug, Default, PartialEq, Eq)]
 pub struct Picked {
@@ -13,17 +14,17 @@ pub struct Picked {
     pub length: u32,
 }
 
-pub fn pick(order: Order, tray: &[u8]) -> Picked {
+pub fn pick(told: Told, tray: &[u8]) -> Picked {
     let refused = |number| Picked { number, ..Picked::default() };
-    if !order.lawful() {
+    if !told.lawful() {
         return refused(1);
     }
-    if tray.len() != order.tray() {
+    if tray.len() != told.order.tray() {
         return refused(4);
     }
     let mut joined = Vec::new();
-    for (stamp, length) in large_groups(order, tray) {
-        let number = join(order, stamp, length, tray, &mut vec![0; length as usize]).number;
+    for (stamp, length) in large_groups(told, tray) {
+        let number = join(told, stamp, length, tray, &mut vec![0; length as usize]).number;
         joined.push(Picked { number, stamp, length });
     }
     let done = joined.iter().find(|picked| picked.number == 0);
@@ -32,16 +33,16 @@ pub fn pick(order: Order, tray: &[u8]) -> Picked {
 }
 
 /// Stamp and length of each group of at least t+f+1 letters, the greatest first.
-fn large_groups(order: Order, tray: &[u8]) -> Vec<(u32, u32)> {
+fn large_groups(told: Told, tray: &[u8]) -> Vec<(u32, u32)> {
     let mut groups: BTreeMap<(u32, u32), u32> = BTreeMap::new();
     for (slot, keeper) in tray.chunks(SLOT).zip(1..) {
         match Letter::read(slot) {
-            Ok(Letter { head, .. }) if head.order == order && head.keeper == keeper => {
+            Ok(Letter { head, .. }) if head.told == told && head.keeper == keeper => {
                 *groups.entry((head.stamp, head.length)).or_default() += 1;
             }
             _ => {}
         }
     }
-    groups.retain(|_, &mut size| size >= order.fewest());
+    groups.retain(|_, &mut size| size >= told.order.fewest());
     groups.into_keys().rev().collect()
 }

@@ -3,10 +3,14 @@
 use crate::join::{join, usable, Joined};
 use crate::order::Order;
 use crate::pick::{pick, Picked};
+use crate::told::Told;
 
 pub fn report(input: &[u8]) -> Vec<u8> {
-    let lines = match input {
-        [t, f, n, tray @ ..] => report_on(Order::new((*t).into(), (*f).into(), (*n).into()), tray),
+    let order = |t: u8, f: u8, n: u8| Order::new(t.into(), f.into(), n.into());
+    let lines = match *input {
+        [t, f, n, key, ref tray @ ..] => report_on(Told::new(order(t, f, n), key.into()), tray),
+        // where the key is missing, the order is judged all the same
+        [t, f, n] if !order(t, f, n).lawful() => answer(1),
         _ => answer(4),
     };
     lines.into_bytes()
@@ -16,17 +20,17 @@ fn answer(number: u32) -> String {
     format!("answer {number}\n")
 }
 
-fn report_on(order: Order, tray: &[u8]) -> String {
-    let Picked { number, stamp, length } = pick(order, tray);
+fn report_on(told: Told, tray: &[u8]) -> String {
+    let Picked { number, stamp, length } = pick(told, tray);
     if ![0, 7, 8].contains(&number) {
         return answer(number);
     }
-    let joined = join(order, stamp, length, tray, &mut vec![0; length as usize]);
-    let letters = usable(order, stamp, length, tray);
+    let joined = join(told, stamp, length, tray, &mut vec![0; length as usize]);
+    let letters = usable(told, stamp, length, tray);
     let is_usable = |keeper| letters.iter().any(|letter| letter.head.keeper == keeper);
 
-    let mut text = format!("stamp {stamp} length {length}\n");
-    for keeper in 1..=order.n {
+    let mut text = format!("key {} stamp {stamp} length {length}\n", told.key);
+    for keeper in 1..=told.order.n {
         let state = if is_usable(keeper) { state(&joined, keeper) } else { "absent" };
         text += &format!("keeper {keeper} {state}\n");
     }

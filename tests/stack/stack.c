@@ -17,7 +17,7 @@ void *mmap(void *at, size_t size, int protection, int flags, int file, long offs
 int mprotect(void *at, size_t size, int protection);
 
 enum { SLOT = 2048, N = 16, TRAY = N * SLOT, MOST_T = 7, LONGEST = 952 };
-enum { KEEPER = 1, STAMP = 2, TRIES = 100 };
+enum { KEY = 255, KEEPER = 1, STAMP = 2, TRIES = 100 };
 
 /* The header's limit, and room to see by how much a call passes it. */
 enum { LIMIT = 64 * 1024, GROUND = 4 * LIMIT };
@@ -69,7 +69,7 @@ static uint32_t draw(uint32_t below) {
 }
 
 static uint32_t cut(uint8_t *tray, uint32_t stamp) {
-    return cs_cut(now.t, now.f, N, stamp, common->secret, LONGEST, common->random,
+    return cs_cut(now.t, now.f, N, KEY, stamp, common->secret, LONGEST, common->random,
                   now.t * LONGEST, tray, TRAY);
 }
 
@@ -78,16 +78,18 @@ static uint32_t run_cut(void) { return cut(common->tray, STAMP); }
 static uint32_t run_read(void) { return cs_read(common->tray, SLOT).number; }
 
 static uint32_t run_store(void) {
-    return cs_store(now.t, now.f, N, KEEPER, common->other, SLOT, common->tray, SLOT).number;
+    return cs_store(now.t, now.f, N, KEY, KEEPER, common->other, SLOT, common->tray, SLOT).number;
 }
 
-static uint32_t run_fetch(void) { return cs_fetch(now.t, now.f, N, KEEPER, common->tray, SLOT); }
+static uint32_t run_fetch(void) {
+    return cs_fetch(now.t, now.f, N, KEY, KEEPER, common->tray, SLOT);
+}
 
-static uint32_t run_pick(void) { return cs_pick(now.t, now.f, N, common->tray, TRAY).number; }
+static uint32_t run_pick(void) { return cs_pick(now.t, now.f, N, KEY, common->tray, TRAY).number; }
 
 static uint32_t run_join(void) {
-    cs_join_result r = cs_join(now.t, now.f, N, STAMP, LONGEST, common->tray, TRAY, common->room,
-                               LONGEST);
+    cs_join_result r = cs_join(now.t, now.f, N, KEY, STAMP, LONGEST, common->tray, TRAY,
+                               common->room, LONGEST);
     return r.number;
 }
 

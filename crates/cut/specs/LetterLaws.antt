@@ -8,7 +8,7 @@ use native.Mathlib.Omega.{arith}
 use lib.ListN.{length}
 use Rattle.lists.specs.Pieces.{pieces, pieces-same}
 use Rattle.algebra.specs.Field.{Ops}
-use Rattle.header.specs.declared.order.Order.{Order}
+use Rattle.header.specs.declared.told.Told.{Told}
 use Rattle.header.specs.Head.{lawfulHead}
 use Rattle.header.specs.HeadLaws.{facts-lawful-head}
 use Rattle.format.specs.Letter.{letterBytes}
@@ -21,20 +21,20 @@ use Rattle.cut.specs.CutLaws.{CutFacts}
 use Rattle.cut.specs.Letters.{letterFrom, LettersLent}
 
 -- a letter stands in its slot once a row has been filled with its share words and written
-pub letter-written : (O : Ops) (order : Order) (stamp : ℕ) (columns : List ℕ) (l x y : ℕ) (row slot : List ℕ)
-    → y ≡ x → row ≡ valuesFrom O columns l (order .t) y 0 → slot ≡ letterBytes (headFor order stamp l x) row → slot ≡ letterFrom O order stamp columns l x
-letter-written O order stamp columns l x y row slot same filled written =
-    written ∙ ap (letterBytes (headFor order stamp l x)) (filled ∙ ap (λ (z : ℕ). valuesFrom O columns l (order .t) z 0) same)
+pub letter-written : (O : Ops) (told : Told) (stamp : ℕ) (columns : List ℕ) (l x y : ℕ) (row slot : List ℕ)
+    → y ≡ x → row ≡ valuesFrom O columns l (told .order .t) y 0 → slot ≡ letterBytes (headFor told stamp l x) row → slot ≡ letterFrom O told stamp columns l x
+letter-written O told stamp columns l x y row slot same filled written =
+    written ∙ ap (letterBytes (headFor told stamp l x)) (filled ∙ ap (λ (z : ℕ). valuesFrom O columns l (told .order .t) z 0) same)
 
 -- each keeper's head is lawful
-pub lent-lawful : {order : Order} {stamp l bytes : ℕ} {columns : List ℕ} → LettersLent order stamp columns l bytes
-    → (k : ℕ) → k < order .n → lawfulHead (headFor order stamp l (k + 1)) ≡ true
-lent-lawful {order} {stamp} {l} lent k h =
-    facts-lawful-head (headFor order stamp l (k + 1)) (record { of-terms = lent .of-terms; of-keeper = omega arith })
+pub lent-lawful : {told : Told} {stamp l bytes : ℕ} {columns : List ℕ} → LettersLent told stamp columns l bytes
+    → (k : ℕ) → k < told .order .n → lawfulHead (headFor told stamp l (k + 1)) ≡ true
+lent-lawful {told} {stamp} {l} lent k h =
+    facts-lawful-head (headFor told stamp l (k + 1)) (record { of-terms = lent .of-terms; of-keeper = omega arith })
 
-module _ (order : Order) (stamp : ℕ) (secret random columns : List ℕ) (l : ℕ) (laid : columns ≡ columnsOf (order .t) secret random) (long : l ≡ length secret) where
+module _ (told : Told) (stamp : ℕ) (secret random columns : List ℕ) (l : ℕ) (laid : columns ≡ columnsOf (told .order .t) secret random) (long : l ≡ length secret) where
   -- laid out, the letters are lent what they want
-  pub laid-lent : (tray : List ℕ) → CutFacts order stamp secret random tray → LettersLent order stamp columns l (length tray)
+  pub laid-lent : (tray : List ℕ) → CutFacts told stamp secret random tray → LettersLent told stamp columns l (length tray)
   laid-lent tray facts =
       record {
         of-terms = rw long (facts .of-terms);
@@ -44,10 +44,10 @@ module _ (order : Order) (stamp : ℕ) (secret random columns : List ℕ) (l : �
       }
 
   -- and they are the cut's
-  pub laid-cut : (O : Ops) (left : List ℕ) → length random ≡ length secret * order .t
-      → left ≡ pieces (λ k. letterFrom O order stamp columns l (suc k)) (order .n) → left ≡ cutTray O order stamp secret random
+  pub laid-cut : (O : Ops) (left : List ℕ) → length random ≡ length secret * told .order .t
+      → left ≡ pieces (λ k. letterFrom O told stamp columns l (suc k)) (told .order .n) → left ≡ cutTray O told stamp secret random
   unfolding cutTray letterOf
   laid-cut O left size written =
       written
-      ∙ pieces-same _ _ (order .n)
-      (λ k h. rw (laid, long) (ap (letterBytes (headFor order stamp (length secret) (suc k))) (values-shares (order .t) secret random size O (suc k))))
+      ∙ pieces-same _ _ (told .order .n)
+      (λ k h. rw (laid, long) (ap (letterBytes (headFor told stamp (length secret) (suc k))) (values-shares (told .order .t) secret random size O (suc k))))

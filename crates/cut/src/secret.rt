@@ -6,7 +6,7 @@ ghost use Rattle.field.specs.Modulo.{mod257};
 ghost use Rattle.cut.specs.Cut.{cutNumber, cutTray, CutDone};
 use crate::letters::write_letters;
 use crate::refusal::refusal;
-use header::order::Order;
+use header::told::Told;
 use shares::columns::lay_out;
 
 fn wide(byte: u8) -> u16
@@ -29,7 +29,7 @@ fn put_bytes(secret: &[u8], row: &mut [u16])
 
 // Fills a tray with a letter for each keeper. The columns and the row are room to work in.
 fn fill(
-    o: Order,
+    told: Told,
     stamp: u32,
     secret: &[u8],
     random: &[u16],
@@ -37,26 +37,26 @@ fn fill(
     row: &mut [u16],
     tray: &mut [u8],
 )
-    requires { ⌜ cutNumber o stamp (now secret) (now random) (now tray) ≡ 0 ⌝ ∗ ⌜ length (now columns) ≡ length (now secret) * (o .t + 1) ⌝ ∗ ⌜ length (now row) ≡ length (now secret) ⌝ }
-    ensures { λ _. ⌜ now (tray .exit) ≡ cutTray mod257 o stamp (now (secret .entry)) (now (random .entry)) ⌝ }
+    requires { ⌜ cutNumber told stamp (now secret) (now random) (now tray) ≡ 0 ⌝ ∗ ⌜ length (now columns) ≡ length (now secret) * (told .order .t + 1) ⌝ ∗ ⌜ length (now row) ≡ length (now secret) ⌝ }
+    ensures { λ _. ⌜ now (tray .exit) ≡ cutTray mod257 told stamp (now (secret .entry)) (now (random .entry)) ⌝ }
 {
     put_bytes(secret, row);
-    lay_out(row, random, o.t, columns);
-    write_letters(o, stamp, columns, row, tray);
+    lay_out(row, random, told.order.t, columns);
+    write_letters(told, stamp, columns, row, tray);
 }
 
 // Cuts a secret into letters. A refused cut leaves the tray as it was. 7616 words are the longest secret's eight columns.
-pub fn cut(o: Order, stamp: u32, secret: &[u8], random: &[u16], tray: &mut [u8]) -> u32
-    ensures { λ r. ⌜ CutDone mod257 o stamp (now (secret .entry)) (now (random .entry)) (now (tray .entry)) r (now (tray .exit)) ⌝ }
+pub fn cut(told: Told, stamp: u32, secret: &[u8], random: &[u16], tray: &mut [u8]) -> u32
+    ensures { λ r. ⌜ CutDone mod257 told stamp (now (secret .entry)) (now (random .entry)) (now (tray .entry)) r (now (tray .exit)) ⌝ }
 {
-    let number = refusal(o, stamp, secret, random, tray);
+    let number = refusal(told, stamp, secret, random, tray);
     if number == 0 {
         let l = secret.len();
-        let size = l * (o.t + 1);
+        let size = l * (told.order.t + 1);
         let mut columns = [0u16; 7616];
         let mut row = [0u16; 952];
         fill(
-            o,
+            told,
             stamp,
             secret,
             random,

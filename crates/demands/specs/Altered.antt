@@ -11,34 +11,34 @@ use Rattle.lists.specs.Chosen.{chosen, length-chosen, count-chosen}
 use Rattle.lists.specs.Count.{count, count-not}
 use Rattle.lists.specs.From.{from}
 use Rattle.lists.specs.SameBytes.{sameBytes}
-use Rattle.header.specs.declared.order.Order.{Order}
+use Rattle.header.specs.declared.told.Told.{Told}
 use Rattle.tray.specs.Tray.{slotOf, usable, usableMany}
 
 -- keeper x's slot is usable, and is the cut's
-abbrev pub unaltered : Order → ℕ → ℕ → List ℕ → List ℕ → ℕ → Bool
-unaltered order stamp l cut tray x = usable order stamp l tray x && sameBytes (slotOf tray x) (slotOf cut x)
+abbrev pub unaltered : Told → ℕ → ℕ → List ℕ → List ℕ → ℕ → Bool
+unaltered told stamp l cut tray x = usable told stamp l tray x && sameBytes (slotOf tray x) (slotOf cut x)
 
 -- keeper x's slot is usable, and differs from the cut's
-abbrev pub altered : Order → ℕ → ℕ → List ℕ → List ℕ → ℕ → Bool
-altered order stamp l cut tray x = usable order stamp l tray x && not (sameBytes (slotOf tray x) (slotOf cut x))
+abbrev pub altered : Told → ℕ → ℕ → List ℕ → List ℕ → ℕ → Bool
+altered told stamp l cut tray x = usable told stamp l tray x && not (sameBytes (slotOf tray x) (slotOf cut x))
 
 -- "Take a cut tray, alter any slots so that at most f usable ones differ from the cut, and make any others unusable."
-pub record AtMostAltered (order : Order) (stamp l : ℕ) (cut tray : List ℕ) : Type 0 where
+pub record AtMostAltered (told : Told) (stamp l : ℕ) (cut tray : List ℕ) : Type 0 where
   pub bytes : Below 256 tray
-  pub few : count (altered order stamp l cut tray) (from 1 (order .n)) ≤ order .f
+  pub few : count (altered told stamp l cut tray) (from 1 (told .order .n)) ≤ told .order .f
 
 -- how many of the usable slots are unaltered
-abbrev pub unalteredMany : Order → ℕ → ℕ → List ℕ → List ℕ → ℕ
-unalteredMany order stamp l cut tray = count (unaltered order stamp l cut tray) (from 1 (order .n))
+abbrev pub unalteredMany : Told → ℕ → ℕ → List ℕ → List ℕ → ℕ
+unalteredMany told stamp l cut tray = count (unaltered told stamp l cut tray) (from 1 (told .order .n))
 
 -- "if m is at least t+2f+1, and also for smaller m if at least t+f+1 usable letters are unaltered"
-abbrev pub EnoughLeft : Order → ℕ → ℕ → List ℕ → List ℕ → Type 0
-EnoughLeft order stamp l cut tray = (order .t + 2 * order .f + 1 ≤ usableMany order stamp l tray) ⊎ (order .t + order .f + 1 ≤ unalteredMany order stamp l cut tray)
+abbrev pub EnoughLeft : Told → ℕ → ℕ → List ℕ → List ℕ → Type 0
+EnoughLeft told stamp l cut tray = (told .order .t + 2 * told .order .f + 1 ≤ usableMany told stamp l tray) ⊎ (told .order .t + told .order .f + 1 ≤ unalteredMany told stamp l cut tray)
 
 -- the usable slots are those unaltered and those altered
-pub count-usable : (order : Order) (stamp l : ℕ) (cut tray xs : List ℕ)
-    → count (unaltered order stamp l cut tray) xs + count (altered order stamp l cut tray) xs ≡ count (usable order stamp l tray) xs
-count-usable order stamp l cut tray xs =
-    let u = usable order stamp l tray in
+pub count-usable : (told : Told) (stamp l : ℕ) (cut tray xs : List ℕ)
+    → count (unaltered told stamp l cut tray) xs + count (altered told stamp l cut tray) xs ≡ count (usable told stamp l tray) xs
+count-usable told stamp l cut tray xs =
+    let u = usable told stamp l tray in
     let s : ℕ → Bool = λ x. sameBytes (slotOf tray x) (slotOf cut x) in
     omega (arith, count-chosen u s xs, count-chosen u (λ x. not (s x)) xs, count-not s (chosen u xs), length-chosen u xs)

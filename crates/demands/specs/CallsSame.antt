@@ -6,6 +6,7 @@ use mathlib.Core.Path.{_≡_, sym, _∙_}
 use mathlib.Core.List.{List}
 use Rattle.algebra.specs.Field.{Ops}
 use Rattle.header.specs.declared.order.Order.{Order}
+use Rattle.header.specs.declared.told.Told.{Told}
 use Rattle.format.specs.Reading.{readOf}
 use Rattle.cut.specs.LetterField.{LetterField}
 use Rattle.join.specs.Join.{JoinDone}
@@ -27,22 +28,22 @@ use Rattle.demands.specs.Same.{join-same, store-same, pick-same, compare
 pub cs-read-same : (slot : List ℕ) {result result′ : ReadResult} → result ≡ readResult (readOf slot) → result′ ≡ readResult (readOf slot) → result ≡ result′
 cs-read-same slot e e′ = e ∙ sym e′
 
-pub cs-join-same : {O : Ops} → LetterField O → {order : Order} {stamp l : ℕ} {tray room left left′ : List ℕ} {result result′ : JoinResult}
-    → JoinDone O order stamp l tray room (joinedAs result) left → JoinDone O order stamp l tray room (joinedAs result′) left′ → (result ≡ result′) × (left ≡ left′)
+pub cs-join-same : {O : Ops} → LetterField O → {told : Told} {stamp l : ℕ} {tray room left left′ : List ℕ} {result result′ : JoinResult}
+    → JoinDone O told stamp l tray room (joinedAs result) left → JoinDone O told stamp l tray room (joinedAs result′) left′ → (result ≡ result′) × (left ≡ left′)
 cs-join-same F {result = result} {result′} D D′ =
     let one = join-same F D D′ in
     let same : joinedAs result ≡ joinedAs result′ = one .0 in
     (λ i. record { number = same i .number; usable = same i .usable; need = same i .need; set = same i .set; trials = same i .trials }, one .1)
 
-pub cs-store-same : {order : Order} {keeper : ℕ} {held letter left left′ : List ℕ} {result result′ : StoreResult}
-    → StoreDone order keeper held letter (storedAs result) left → StoreDone order keeper held letter (storedAs result′) left′ → (result ≡ result′) × (left ≡ left′)
+pub cs-store-same : {told : Told} {keeper : ℕ} {held letter left left′ : List ℕ} {result result′ : StoreResult}
+    → StoreDone told keeper held letter (storedAs result) left → StoreDone told keeper held letter (storedAs result′) left′ → (result ≡ result′) × (left ≡ left′)
 cs-store-same {result = result} {result′} D D′ =
     let one = store-same D D′ in
     let same : storedAs result ≡ storedAs result′ = one .0 in
     (λ i. record { number = same i .number; place = same i .place }, one .1)
 
-pub cs-pick-same : {O : Ops} → LetterField O → {order : Order} {tray : List ℕ} {result result′ : PickResult}
-    → PickDone O order tray (pickedAs result) → PickDone O order tray (pickedAs result′) → result ≡ result′
+pub cs-pick-same : {O : Ops} → LetterField O → {told : Told} {tray : List ℕ} {result result′ : PickResult}
+    → PickDone O told tray (pickedAs result) → PickDone O told tray (pickedAs result′) → result ≡ result′
 cs-pick-same F {result = result} {result′} D D′ =
     let same : pickedAs result ≡ pickedAs result′ = pick-same F D D′ in
     λ i. record { number = same i .number; stamp = same i .stamp; length = same i .length }

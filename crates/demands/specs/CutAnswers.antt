@@ -7,6 +7,7 @@ use mathlib.Core.List.{List}
 use lib.ListN.{length}
 use Rattle.field.specs.Modulo.{mod257}
 use Rattle.header.specs.declared.order.Order.{Order}
+use Rattle.header.specs.declared.told.Told.{Told}
 use Rattle.header.specs.Order.{lawfulOrder}
 use Rattle.header.specs.OrderLaws.{lawful-order-facts, facts-lawful-order}
 use Rattle.header.specs.Passing.{passed, passes}
@@ -19,7 +20,7 @@ use Rattle.shares.specs.Words.{shareRows, WordsDone}
 use Rattle.shares.specs.WordsLaws.{accepted-words, words-accepted}
 use Rattle.cut.specs.Cut.{cutTray, CutDone}
 use Rattle.cut.specs.CutLaws.{accepted-facts, facts-accepted}
-use Rattle.cut.specs.OneCut.{OneCut}
+use Rattle.cut.specs.OneCut.{OneCut, told-lawful}
 
 -- what is lent to a cut that is not refused is what one cut is given
 module _ (order : Order) (constants random : List ℕ) (each : ℕ) (room : List ℕ) where
@@ -35,25 +36,30 @@ module _ (order : Order) (constants random : List ℕ) (each : ℕ) (room : List
   one-lent : OneWords mod257 order constants random → length room ≡ each * order .n → LentFacts order constants random each room
   one-lent W s = record { words-lent = W .random-size; room-lent = s; constants-within = W .constants-below; words-within = W .random-below }
 
-module _ (order : Order) (stamp : ℕ) (secret random tray : List ℕ) where
+module _ (told : Told) (stamp : ℕ) (secret random tray : List ℕ) where
   -- a cut that answers 0 is one cut, and leaves its tray
-  pub zero-one-cut : {left : List ℕ} → CutDone mod257 order stamp secret random tray 0 left
-      → OneCut mod257 order stamp secret random × (left ≡ cutTray mod257 order stamp secret random)
+  pub zero-one-cut : {left : List ℕ} → CutDone mod257 told stamp secret random tray 0 left
+      → OneCut mod257 told stamp secret random × (left ≡ cutTray mod257 told stamp secret random)
   zero-one-cut D =
-      let h = accepted-facts order stamp secret random tray (sym (D .answers)) in
-      let lawful = facts-lawful-terms order stamp (length secret) (h .of-terms) in (
-        record { of-words = lent-one order secret random 2048 tray (lawful .0) (lawful .1) (h .of-lent); stamp-lawful = lawful .2 },
+      let h = accepted-facts told stamp secret random tray (sym (D .answers)) in
+      let of-told = h .of-terms .of-told in
+      let lawful = facts-lawful-terms told stamp (length secret) (h .of-terms) in (
+        record {
+          of-words = lent-one (told .order) secret random 2048 tray (facts-lawful-order (told .order) (of-told .of-order)) (lawful .1) (h .of-lent);
+          key-lawful = simp (passes, of-told .key-most);
+          stamp-lawful = lawful .2;
+        },
         filled D (sym (D .answers)),
       )
 
   -- one cut, with a tray to fill, answers 0 and leaves its tray
-  pub one-cut-zero : {number : ℕ} {left : List ℕ} → OneCut mod257 order stamp secret random → length tray ≡ 2048 * order .n
-      → CutDone mod257 order stamp secret random tray number left → (number ≡ 0) × (left ≡ cutTray mod257 order stamp secret random)
+  pub one-cut-zero : {number : ℕ} {left : List ℕ} → OneCut mod257 told stamp secret random → length tray ≡ 2048 * told .order .n
+      → CutDone mod257 told stamp secret random tray number left → (number ≡ 0) × (left ≡ cutTray mod257 told stamp secret random)
   one-cut-zero C s D =
       let W = C .of-words in
-      let e = facts-accepted order stamp secret random tray (record {
-        of-terms = lawful-terms-facts order stamp (length secret) (W .order-lawful) (W .length-lawful) (C .stamp-lawful);
-        of-lent = one-lent order secret random 2048 tray W s;
+      let e = facts-accepted told stamp secret random tray (record {
+        of-terms = lawful-terms-facts told stamp (length secret) (told-lawful C) (W .length-lawful) (C .stamp-lawful);
+        of-lent = one-lent (told .order) secret random 2048 tray W s;
       }) in
       (D .answers ∙ e, filled D e)
 

@@ -11,7 +11,7 @@ use lib.Seq.{length-take-le, ext-getD}
 use Rattle.lists.specs.Below.{Below, below-head, below-tail, below-take, below-drop}
 use Rattle.algebra.specs.Field.{Ops}
 use Rattle.algebra.specs.Poly.{eval, Degree, degree-cons}
-use Rattle.header.specs.declared.order.Order.{Order}
+use Rattle.header.specs.declared.told.Told.{Told}
 use Rattle.header.specs.declared.head.Head.{Head}
 use Rattle.header.specs.OrderLaws.{KeeperFacts}
 use Rattle.format.specs.declared.reader.Reading.the-variants.{Good}
@@ -60,49 +60,49 @@ eval-cut O t x [] random i h = absurd (not-suc-le-zero h)
 eval-cut O t x (c ∷ cs) random zero h = refl
 eval-cut O t x (c ∷ cs) random (suc i) h = eval-cut O t x cs (drop t random) i (le-of-suc-le-suc h)
 
-module _ {O : Ops} (F : LetterField O) {order : Order} {stamp : ℕ} {secret random : List ℕ} (C : OneCut O order stamp secret random) where
-  pub polynomials-cut : Polynomials O (order .t) (length secret) (cutPolynomials (order .t) secret random)
+module _ {O : Ops} (F : LetterField O) {told : Told} {stamp : ℕ} {secret random : List ℕ} (C : OneCut O told stamp secret random) where
+  pub polynomials-cut : Polynomials O (told .order .t) (length secret) (cutPolynomials (told .order .t) secret random)
   polynomials-cut = record {
-    size = length-cut (order .t) secret random;
-    degree = let W = C .of-words in degree-cut O (order .t) secret random (W .constants-below) (W .random-below) (W .random-size);
+    size = length-cut (told .order .t) secret random;
+    degree = let W = C .of-words in degree-cut O (told .order .t) secret random (W .constants-below) (W .random-below) (W .random-size);
   }
 
-  module _ (tray : List ℕ) (x : ℕ) (k : KeeperFacts order x) where
+  module _ (tray : List ℕ) (x : ℕ) (k : KeeperFacts (told .order) x) where
     -- a slot that is the cut's matches
-    pub slot-matches : slotOf tray x ≡ slotOf (cutTray O order stamp secret random) x
-        → matches O (cutPolynomials (order .t) secret random) (length secret) (wordOf tray (length secret)) x ≡ true
+    pub slot-matches : slotOf tray x ≡ slotOf (cutTray O told stamp secret random) x
+        → matches O (cutPolynomials (told .order .t) secret random) (length secret) (wordOf tray (length secret)) x ≡ true
     unfolding wordOf
     slot-matches e =
-        matches-holds O (cutPolynomials (order .t) secret random) (length secret) (wordOf tray (length secret)) x
-        (λ i h. eval-cut O (order .t) x secret random i h ∙ sym (word i))
+        matches-holds O (cutPolynomials (told .order .t) secret random) (length secret) (wordOf tray (length secret)) x
+        (λ i h. eval-cut O (told .order .t) x secret random i h ∙ sym (word i))
       where
-        word : (i : ℕ) → wordOf tray (length secret) x i ≡ getD (shareWords O (order .t) x secret random) i 0
+        word : (i : ℕ) → wordOf tray (length secret) x i ≡ getD (shareWords O (told .order .t) x secret random) i 0
         word i = rw (e, shares-cut F C x k)
 
     -- and a usable slot that matches is the cut's
-    pub matches-slot : Below 256 tray → usable order stamp (length secret) tray x ≡ true
-        → matches O (cutPolynomials (order .t) secret random) (length secret) (wordOf tray (length secret)) x ≡ true
-        → slotOf tray x ≡ slotOf (cutTray O order stamp secret random) x
+    pub matches-slot : Below 256 tray → usable told stamp (length secret) tray x ≡ true
+        → matches O (cutPolynomials (told .order .t) secret random) (length secret) (wordOf tray (length secret)) x ≡ true
+        → slotOf tray x ≡ slotOf (cutTray O told stamp secret random) x
     unfolding wordOf
     matches-slot b u e =
         let there = good-written (slotOf tray x) h within read in
         same-slot (slotOf tray x) (slotOf cut x) h within (below-slot cut x 256 (below-cut-tray F C)) read (read-cut F C x k)
         (ext-getD 0 (sharesOf (slotOf tray x) (length secret)) (sharesOf (slotOf cut x) (length secret))
-        (there .size ∙ sym (ap length (shares-cut F C x k) ∙ length-share-words O (order .t) x secret random)) (λ i l. same i (omega (arith, there .size))))
+        (there .size ∙ sym (ap length (shares-cut F C x k) ∙ length-share-words O (told .order .t) x secret random)) (λ i l. same i (omega (arith, there .size))))
       where
         cut : List ℕ
-        cut = cutTray O order stamp secret random
+        cut = cutTray O told stamp secret random
 
         h : Head
-        h = headFor order stamp (length secret) x
+        h = headFor told stamp (length secret) x
 
         read : readOf (slotOf tray x) ≡ Good h
-        read = usable-reads order stamp (length secret) tray x u
+        read = usable-reads told stamp (length secret) tray x u
 
         within : Below 256 (slotOf tray x)
         within = below-slot tray x 256 b
 
         same : (i : ℕ) → i < length secret → wordOf tray (length secret) x i ≡ getD (sharesOf (slotOf cut x) (length secret)) i 0
         same i l =
-            sym (matches-at O (cutPolynomials (order .t) secret random) (length secret) (wordOf tray (length secret)) x e i l)
-            ∙ eval-cut O (order .t) x secret random i l ∙ ap (λ (ws : List ℕ). getD ws i 0) (sym (shares-cut F C x k))
+            sym (matches-at O (cutPolynomials (told .order .t) secret random) (length secret) (wordOf tray (length secret)) x e i l)
+            ∙ eval-cut O (told .order .t) x secret random i l ∙ ap (λ (ws : List ℕ). getD ws i 0) (sym (shares-cut F C x k))

@@ -6,6 +6,8 @@ pub mod Accepted
 pub mod Recovery
 -- "a cut tray must be accepted"
 pub mod Untouched
+-- "Letters of our boot and mirror keys were mixed up": nothing wrong is joined
+pub mod MixedKeys
 -- "It counts the sets up to and including the first": which that is, and how many there are
 pub mod Hunted
 -- the pick's number is that of the join of what it names

@@ -7,11 +7,11 @@ use lib.ListN.{length, replicate, length-replicate}
 use Rattle.lists.specs.Below.{Below}
 use Rattle.algebra.specs.Field.{Ops}
 use Rattle.field.specs.Modulo.{mod257}
-use Rattle.header.specs.declared.order.Order.{Order}
+use Rattle.header.specs.declared.told.Told.{Told}
 use Rattle.agree.specs.ReachesLaws.{reaches-many}
 use Rattle.cut.specs.Cut.{cutTray}
 use Rattle.cut.specs.LetterField.{LetterField, mod257-letters}
-use Rattle.cut.specs.OneCut.{OneCut}
+use Rattle.cut.specs.OneCut.{OneCut, told-lawful}
 use Rattle.join.specs.declared.Joined.{Joined}
 use Rattle.join.specs.Join.{JoinDone, judged, joined}
 use Rattle.pick.specs.declared.Picked.{Picked}
@@ -23,16 +23,16 @@ use Rattle.demands.specs.Recovery.{GivesBack, cut-agreed, gives-right}
 use Rattle.demands.specs.Same.{pick-same}
 
 -- the pick names a write, and the join of what is named gives its secret back
-pub record Read (O : Ops) (order : Order) (stamp : ℕ) (secret cut tray : List ℕ) (p : Picked) : Type 0 where
+pub record Read (O : Ops) (told : Told) (stamp : ℕ) (secret cut tray : List ℕ) (p : Picked) : Type 0 where
   pub names : p ≡ picked 0 stamp (length secret)
-  pub gives : (room left : List ℕ) (result : Joined) → length room ≡ p .length → JoinDone O order (p .stamp) (p .length) tray room result left
-      → GivesBack order stamp secret cut tray result left
+  pub gives : (room left : List ℕ) (result : Joined) → length room ≡ p .length → JoinDone O told (p .stamp) (p .length) tray room result left
+      → GivesBack told stamp secret cut tray result left
 
-module _ {O : Ops} (F : LetterField O) {order : Order} {stamp : ℕ} {secret random tray : List ℕ} (C : OneCut O order stamp secret random)
-    (A : AtMostAltered order stamp (length secret) (cutTray O order stamp secret random) tray) (bytes : Below 256 secret) (slots : length tray ≡ 2048 * order .n)
-    (left : EnoughLeft order stamp (length secret) (cutTray O order stamp secret random) tray) where
+module _ {O : Ops} (F : LetterField O) {told : Told} {stamp : ℕ} {secret random tray : List ℕ} (C : OneCut O told stamp secret random)
+    (A : AtMostAltered told stamp (length secret) (cutTray O told stamp secret random) tray) (bytes : Below 256 secret) (slots : length tray ≡ 2048 * told .order .n)
+    (left : EnoughLeft told stamp (length secret) (cutTray O told stamp secret random) tray) where
   -- its letters would be joined by themselves
-  joining : Joining O order tray stamp (length secret)
+  joining : Joining O told tray stamp (length secret)
   joining =
       let agreed = cut-agreed F C A bytes left in
       let room : List ℕ = replicate (length secret) 0 in
@@ -46,18 +46,18 @@ module _ {O : Ops} (F : LetterField O) {order : Order} {stamp : ℕ} {secret ran
         };
       }
 
-  write-read : ((s k : ℕ) → Joining O order tray s k → NotBefore s k stamp (length secret)) → {p : Picked} → PickDone O order tray p
-      → Read O order stamp secret (cutTray O order stamp secret random) tray p
+  write-read : ((s k : ℕ) → Joining O told tray s k → NotBefore s k stamp (length secret)) → {p : Picked} → PickDone O told tray p
+      → Read O told stamp secret (cutTray O told stamp secret random) tray p
   write-read rest {p} D =
-      let this : PickDone O order tray (picked 0 stamp (length secret)) =
-      chosen stamp (length secret) (facts-picked order tray (C .of-words .order-lawful) slots) (record { has = joining; rest = rest }) in
+      let this : PickDone O told tray (picked 0 stamp (length secret)) =
+      chosen stamp (length secret) (facts-picked told tray (told-lawful C) slots) (record { has = joining; rest = rest }) in
       let same : p ≡ picked 0 stamp (length secret) = pick-same F D this in
       record { names = same; gives = λ room after result s J. gives-right F C A (rw same at J) bytes slots (rw same at s) left }
 
 -- an older write, of one cut with at most f of its usable letters altered and enough of them left, is read where no group that joins comes before it
-pub older-write : {order : Order} {stamp : ℕ} {secret random tray : List ℕ} {p : Picked} → OneCut mod257 order stamp secret random
-    → AtMostAltered order stamp (length secret) (cutTray mod257 order stamp secret random) tray → Below 256 secret → length tray ≡ 2048 * order .n
-    → EnoughLeft order stamp (length secret) (cutTray mod257 order stamp secret random) tray
-    → ((s k : ℕ) → Joining mod257 order tray s k → NotBefore s k stamp (length secret))
-    → PickDone mod257 order tray p → Read mod257 order stamp secret (cutTray mod257 order stamp secret random) tray p
+pub older-write : {told : Told} {stamp : ℕ} {secret random tray : List ℕ} {p : Picked} → OneCut mod257 told stamp secret random
+    → AtMostAltered told stamp (length secret) (cutTray mod257 told stamp secret random) tray → Below 256 secret → length tray ≡ 2048 * told .order .n
+    → EnoughLeft told stamp (length secret) (cutTray mod257 told stamp secret random) tray
+    → ((s k : ℕ) → Joining mod257 told tray s k → NotBefore s k stamp (length secret))
+    → PickDone mod257 told tray p → Read mod257 told stamp secret (cutTray mod257 told stamp secret random) tray p
 older-write C A bytes slots left rest D = write-read mod257-letters C A bytes slots left rest D

@@ -8,6 +8,7 @@ use lib.ListN.{length, getD, take, drop}
 use Rattle.algebra.specs.Field.{Ops}
 use Rattle.algebra.specs.Poly.{eval}
 use Rattle.header.specs.declared.order.Order.{Order}
+use Rattle.header.specs.declared.told.Told.{Told}
 use Rattle.header.specs.Order.{lawfulKeeper}
 use Rattle.header.specs.OrderLaws.{lawful-keeper-facts}
 use Rattle.format.specs.Letter.{letterBytes}
@@ -27,11 +28,11 @@ row-word O order constants random x k i h =
     ap (λ (row : List ℕ). getD row i 0) (row-shares O order constants random x (lawful-keeper-facts order x k)) ∙ getD-share-words O (order .t) x constants random i h
 
 -- cut into letters, the same constants give each keeper the letter of its row
-pub letter-row : {O : Ops} → LetterField O → {order : Order} {stamp : ℕ} {constants random : List ℕ} → OneCut O order stamp constants random
-    → (x : ℕ) → lawfulKeeper order x ≡ true
-    → slotOf (cutTray O order stamp constants random) x
-    ≡ letterBytes (headFor order stamp (length constants) x) (rowOf (shareRows O order constants random) (length constants) x)
+pub letter-row : {O : Ops} → LetterField O → {told : Told} {stamp : ℕ} {constants random : List ℕ} → OneCut O told stamp constants random
+    → (x : ℕ) → lawfulKeeper (told .order) x ≡ true
+    → slotOf (cutTray O told stamp constants random) x
+    ≡ letterBytes (headFor told stamp (length constants) x) (rowOf (shareRows O (told .order) constants random) (length constants) x)
 unfolding letterOf
-letter-row {O} F {order} {stamp} {constants} {random} C x k =
-    let facts = lawful-keeper-facts order x k in
-    slot-cut F C x facts ∙ ap (letterBytes (headFor order stamp (length constants) x)) (sym (row-shares O order constants random x facts))
+letter-row {O} F {told} {stamp} {constants} {random} C x k =
+    let facts = lawful-keeper-facts (told .order) x k in
+    slot-cut F C x facts ∙ ap (letterBytes (headFor told stamp (length constants) x)) (sym (row-shares O (told .order) constants random x facts))

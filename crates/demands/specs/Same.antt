@@ -11,6 +11,7 @@ use lib.ListN.{length, drop}
 use Rattle.algebra.specs.Field.{Ops}
 use Rattle.algebra.specs.Poly.{eval}
 use Rattle.header.specs.declared.order.Order.{Order}
+use Rattle.header.specs.declared.told.Told.{Told}
 use Rattle.header.specs.OrderLaws.{facts-lawful-order}
 use Rattle.format.specs.declared.reader.Reading.{Reading}
 use Rattle.format.specs.Reading.{readOf}
@@ -33,7 +34,7 @@ use Rattle.compare.specs.Compare.{CompareDone}
 use Rattle.compare.specs.Compare as compare
 use Rattle.lines.specs.Lines.{answerLine}
 use Rattle.report_text.specs.declared.answer.Answered.{Answered}
-use Rattle.report_text.specs.Report.{told, ReportOf, short, unpicked, joined, Reported}
+use Rattle.report_text.specs.Report.{hasLines, ReportOf, short, unpicked, joined, Reported}
 use Rattle.demands.specs.JoinAnswers.{not-refused-order}
 
 -- reading a slot
@@ -41,9 +42,9 @@ pub read-same : (slot : List ℕ) {reading reading′ : Reading} → reading ≡
 read-same slot e e′ = e ∙ sym e′
 
 -- the cut
-pub cut-same : (O : Ops) (order : Order) (stamp : ℕ) (secret random tray : List ℕ) {number number′ : ℕ} {left left′ : List ℕ}
-    → CutDone O order stamp secret random tray number left → CutDone O order stamp secret random tray number′ left′ → (number ≡ number′) × (left ≡ left′)
-cut-same O order stamp secret random tray D D′ = fills-same D D′
+pub cut-same : (O : Ops) (told : Told) (stamp : ℕ) (secret random tray : List ℕ) {number number′ : ℕ} {left left′ : List ℕ}
+    → CutDone O told stamp secret random tray number left → CutDone O told stamp secret random tray number′ left′ → (number ≡ number′) × (left ≡ left′)
+cut-same O told stamp secret random tray D D′ = fills-same D D′
 
 -- the cutting of one value
 pub value-same : (O : Ops) (constant : ℕ) (coefficients : List ℕ) (x : ℕ) {word word′ : ℕ}
@@ -56,28 +57,28 @@ pub words-same : (O : Ops) (order : Order) (words random rows : List ℕ) {numbe
 words-same O order words random rows D D′ = fills-same D D′
 
 -- the join
-pub join-same : {O : Ops} → LetterField O → {order : Order} {stamp l : ℕ} {tray room left left′ : List ℕ} {result result′ : Joined}
-    → JoinDone O order stamp l tray room result left → JoinDone O order stamp l tray room result′ left′ → (result ≡ result′) × (left ≡ left′)
+pub join-same : {O : Ops} → LetterField O → {told : Told} {stamp l : ℕ} {tray room left left′ : List ℕ} {result result′ : Joined}
+    → JoinDone O told stamp l tray room result left → JoinDone O told stamp l tray room result′ left′ → (result ≡ result′) × (left ≡ left′)
 join-same F (refused h) (refused h′) = (refl, refl)
 join-same F (refused h) (judged e D) = absurd (h e)
 join-same F (judged e D) (refused h) = absurd (h e)
-join-same F {order} {stamp} {l} {tray} {room} (judged e D) (judged e′ D′) = outcome-same (F .laws) (keepers-apart F order (not-refused-order order stamp l tray room e)) D D′
+join-same F {told} {stamp} {l} {tray} {room} (judged e D) (judged e′ D′) = outcome-same (F .laws) (keepers-apart F (told .order) (not-refused-order told stamp l tray room e)) D D′
 
 -- the desk: storing, the number that fetching answers, what it hands back
-pub store-same : {order : Order} {keeper : ℕ} {held letter left left′ : List ℕ} {result result′ : Stored}
-    → StoreDone order keeper held letter result left → StoreDone order keeper held letter result′ left′ → (result ≡ result′) × (left ≡ left′)
+pub store-same : {told : Told} {keeper : ℕ} {held letter left left′ : List ℕ} {result result′ : Stored}
+    → StoreDone told keeper held letter result left → StoreDone told keeper held letter result′ left′ → (result ≡ result′) × (left ≡ left′)
 store-same D D′ =
     let number = D .number ∙ sym (D′ .number) in
     let place = D .place ∙ sym (D′ .place) in
     (λ i. record { number = number i; place = place i }, D .leaves ∙ sym (D′ .leaves))
 
-pub fetch-number-same : (order : Order) (keeper : ℕ) (held : List ℕ) {number number′ : ℕ}
-    → number ≡ fetchNumber order keeper held → number′ ≡ fetchNumber order keeper held → number ≡ number′
-fetch-number-same order keeper held e e′ = e ∙ sym e′
+pub fetch-number-same : (told : Told) (keeper : ℕ) (held : List ℕ) {number number′ : ℕ}
+    → number ≡ fetchNumber told keeper held → number′ ≡ fetchNumber told keeper held → number ≡ number′
+fetch-number-same told keeper held e e′ = e ∙ sym e′
 
-pub fetch-same : (order : Order) (keeper : ℕ) (held : List ℕ) {part part′ : List ℕ}
-    → part ≡ fetched order keeper held → part′ ≡ fetched order keeper held → part ≡ part′
-fetch-same order keeper held e e′ = e ∙ sym e′
+pub fetch-same : (told : Told) (keeper : ℕ) (held : List ℕ) {part part′ : List ℕ}
+    → part ≡ fetched told keeper held → part′ ≡ fetched told keeper held → part ≡ part′
+fetch-same told keeper held e e′ = e ∙ sym e′
 
 -- the comparison of two trays
 pub compare-same : {order : Order} {first second : List ℕ} {list left left′ : List (List ℕ)} {result result′ : Compared}
@@ -94,15 +95,15 @@ compare-same (compare.told e l) (compare.told e′ l′) = (refl, refl)
 
 -- the pick: one group comes first, and what its join gives is one number
 first-one : {property : ℕ → ℕ → Type 0} {s k stamp l : ℕ} → First property s k → First property stamp l → (s ≡ stamp) × (k ≡ l)
-first-one {s = s} {k} {stamp} {l} one two = told (two .rest s k (one .has)) (one .rest stamp l (two .has))
+first-one {s = s} {k} {stamp} {l} one two = neither-before (two .rest s k (one .has)) (one .rest stamp l (two .has))
   where
-    told : NotBefore s k stamp l → NotBefore stamp l s k → (s ≡ stamp) × (k ≡ l)
-    told (inl earlier) (inl later) = absurd (omega arith)
-    told (inl earlier) (inr same) = absurd (omega arith)
-    told (inr same) (inl later) = absurd (omega arith)
-    told (inr same) (inr back) = (same .0, le-antisymm (same .1) (back .1))
+    neither-before : NotBefore s k stamp l → NotBefore stamp l s k → (s ≡ stamp) × (k ≡ l)
+    neither-before (inl earlier) (inl later) = absurd (omega arith)
+    neither-before (inl earlier) (inr same) = absurd (omega arith)
+    neither-before (inr same) (inl later) = absurd (omega arith)
+    neither-before (inr same) (inr back) = (same .0, le-antisymm (same .1) (back .1))
 
-pub pick-same : {O : Ops} → LetterField O → {order : Order} {tray : List ℕ} {a b : Picked} → PickDone O order tray a → PickDone O order tray b → a ≡ b
+pub pick-same : {O : Ops} → LetterField O → {told : Told} {tray : List ℕ} {a b : Picked} → PickDone O told tray a → PickDone O told tray b → a ≡ b
 pick-same F (pick.refused p) (pick.refused q) = refl
 pick-same F (pick.refused p) (pick.none e f) = absurd (p e)
 pick-same F (pick.refused p) (pick.chosen stamp l e first) = absurd (p e)
@@ -118,9 +119,9 @@ pick-same F (pick.chosen s k e one) (pick.stuck number stamp l p never two J) = 
 pick-same F (pick.stuck number s k e never one J) (pick.refused q) = absurd (q e)
 pick-same F (pick.stuck number s k e never one J) (pick.none p g) = absurd (g s k (one .has))
 pick-same F (pick.stuck number s k e never one J) (pick.chosen stamp l p two) = absurd (never stamp l (two .has))
-pick-same F {order} {tray} (pick.stuck number s k e never one J) (pick.stuck number′ stamp l p never′ two J′) =
+pick-same F {told} {tray} (pick.stuck number s k e never one J) (pick.stuck number′ stamp l p never′ two J′) =
     let same = first-one one two in
-    let apart = keepers-apart F order (facts-lawful-order order (pick-facts order tray e .of-order)) in
+    let apart = keepers-apart F (told .order) (facts-lawful-order (told .order) (pick-facts told tray e .of-told .of-order)) in
     let numbers = gives-same (F .laws) apart (rw (same .0, same .1) at J) J′ in
     λ i. picked (numbers i) (same .0 i) (same .1 i)
 
@@ -135,10 +136,10 @@ report-of-same (unpicked p whole D e) (unpicked p′ whole′ D′ e′) =
     let same = ap (λ (r : Picked). r .number) (pick-same mod257-letters D D′) in
     (same, ap answerLine same)
 report-of-same (unpicked p whole D e) (joined p′ result left whole′ D′ e′ J) =
-    absurd (false≢true (sym e ∙ (ap (λ (r : Picked). told (r .number)) (pick-same mod257-letters D D′) ∙ e′)))
+    absurd (false≢true (sym e ∙ (ap (λ (r : Picked). hasLines (r .number)) (pick-same mod257-letters D D′) ∙ e′)))
 report-of-same (joined p result left whole D e J) (short h) = absurd (omega arith)
 report-of-same (joined p result left whole D e J) (unpicked p′ whole′ D′ e′) =
-    absurd (false≢true (sym e′ ∙ (ap (λ (r : Picked). told (r .number)) (pick-same mod257-letters D′ D) ∙ e)))
+    absurd (false≢true (sym e′ ∙ (ap (λ (r : Picked). hasLines (r .number)) (pick-same mod257-letters D′ D) ∙ e)))
 report-of-same (joined p result left whole D e J) (joined p′ result′ left′ whole′ D′ e′ J′) =
     let one = pick-same mod257-letters D D′ in
     let results : result ≡ result′ = join-same mod257-letters (rw one at J) J′ .0 in

@@ -15,6 +15,7 @@ use Rattle.algebra.specs.Field.{Ops}
 use Rattle.algebra.specs.Points.{Points}
 use Rattle.field.specs.Modulo.{mod257}
 use Rattle.header.specs.declared.order.Order.{Order}
+use Rattle.header.specs.declared.told.Told.{Told}
 use Rattle.header.specs.Order.{lawfulKeeper}
 use Rattle.header.specs.OrderLaws.{KeeperFacts, lawful-order-facts, lawful-keeper-facts}
 use Rattle.tray.specs.Tray.{slotOf}
@@ -34,9 +35,9 @@ pub record AnyKeepers (order : Order) (ks : List ℕ) : Type 0 where
   pub keepers : (x : ℕ) → In x ks → lawfulKeeper order x ≡ true
 
 -- random words for the constants, with which a cut "gives those keepers the same bytes" as they have in the tray
-abbrev pub GivesSameBytes : Ops → Order → ℕ → List ℕ → List ℕ → List ℕ → List ℕ → Type 0
-GivesSameBytes O order stamp ks tray constants random =
-    GivesSame O (order .t) ks constants (λ words x. slotOf (cutTray O order stamp constants words) x) (slotOf tray) random
+abbrev pub GivesSameBytes : Ops → Told → ℕ → List ℕ → List ℕ → List ℕ → List ℕ → Type 0
+GivesSameBytes O told stamp ks tray constants random =
+    GivesSame O (told .order .t) ks constants (λ words x. slotOf (cutTray O told stamp constants words) x) (slotOf tray) random
 
 -- random words for the constants, with which a cut of words gives those keepers the same rows as they have
 abbrev pub GivesSameRows : Ops → Order → List ℕ → List ℕ → List ℕ → List ℕ → Type 0
@@ -72,17 +73,17 @@ module _ {O : Ops} (F : LetterField O) {order : Order} {ks constants random : Li
   pub words-secrecy : ExactlyOne (GivesSameRows O order ks (shareRows O order constants random) constants′)
   words-secrecy = exactly-one-as O (order .t) ks constants′ _ _ _ _ (λ random′ size below. rows-as random′) shares-one
 
-module _ {O : Ops} (F : LetterField O) {order : Order} {stamp : ℕ} {ks constants random : List ℕ} (C : OneCut O order stamp constants random)
-    (K : AnyKeepers order ks) (constants′ : List ℕ) (s : length constants′ ≡ length constants) (b : Below (O .q) constants′) where
+module _ {O : Ops} (F : LetterField O) {told : Told} {stamp : ℕ} {ks constants random : List ℕ} (C : OneCut O told stamp constants random)
+    (K : AnyKeepers (told .order) ks) (constants′ : List ℕ) (s : length constants′ ≡ length constants) (b : Below (O .q) constants′) where
   -- a keeper's letter tells its share words, and they tell its letter
-  letters-as : (random′ : List ℕ) → length random′ ≡ length constants′ * order .t → Below (O .q) random′ → (x : ℕ) → In x ks
-      → (shareWords O (order .t) x constants′ random′ ≡ shareWords O (order .t) x constants random)
-      ↔ (slotOf (cutTray O order stamp constants′ random′) x ≡ slotOf (cutTray O order stamp constants random) x)
+  letters-as : (random′ : List ℕ) → length random′ ≡ length constants′ * told .order .t → Below (O .q) random′ → (x : ℕ) → In x ks
+      → (shareWords O (told .order .t) x constants′ random′ ≡ shareWords O (told .order .t) x constants random)
+      ↔ (slotOf (cutTray O told stamp constants′ random′) x ≡ slotOf (cutTray O told stamp constants random) x)
   unfolding letterOf
   letters-as random′ size below x m =
-      let k = lawful-keeper-facts order x (K .keepers x m) in
+      let k = lawful-keeper-facts (told .order) x (K .keepers x m) in
       let W = C .of-words in
-      let D : OneCut O order stamp constants′ random′ = record {
+      let D : OneCut O told stamp constants′ random′ = record {
         of-words = record {
           order-lawful = W .order-lawful;
           length-lawful = rw s (W .length-lawful);
@@ -90,18 +91,19 @@ module _ {O : Ops} (F : LetterField O) {order : Order} {stamp : ℕ} {ks constan
           random-size = size;
           random-below = below;
         };
+        key-lawful = C .key-lawful;
         stamp-lawful = C .stamp-lawful;
       } in
       (λ e. rw (slot-cut F D x k, slot-cut F C x k, s, e), λ e. cc (shares-cut F D x k, shares-cut F C x k))
 
   -- "For any t keepers and two secrets of equal length, for each list of random words for the first exactly one for the second gives those
   -- keepers the same bytes." Said of letters of any field words.
-  pub secrecy : ExactlyOne (GivesSameBytes O order stamp ks (cutTray O order stamp constants random) constants′)
-  secrecy = exactly-one-as O (order .t) ks constants′ _ _ _ _ letters-as (shares-one F (C .of-words) K constants′ s b)
+  pub secrecy : ExactlyOne (GivesSameBytes O told stamp ks (cutTray O told stamp constants random) constants′)
+  secrecy = exactly-one-as O (told .order .t) ks constants′ _ _ _ _ letters-as (shares-one F (C .of-words) K constants′ s b)
 
--- The page's case: "modulo the prime 257", and both secrets are bytes.
-pub demand-3 : {order : Order} {stamp : ℕ} {ks secret random : List ℕ} → OneCut mod257 order stamp secret random → AnyKeepers order ks
-    → (secret′ : List ℕ) → length secret′ ≡ length secret → Below 256 secret′ → ExactlyOne (GivesSameBytes mod257 order stamp ks (cutTray mod257 order stamp secret random) secret′)
+-- The page's case: "modulo the prime 257", and both secrets are bytes. "Demand 3 fixes the key like the stamp": both are cut under one of each.
+pub demand-3 : {told : Told} {stamp : ℕ} {ks secret random : List ℕ} → OneCut mod257 told stamp secret random → AnyKeepers (told .order) ks
+    → (secret′ : List ℕ) → length secret′ ≡ length secret → Below 256 secret′ → ExactlyOne (GivesSameBytes mod257 told stamp ks (cutTray mod257 told stamp secret random) secret′)
 demand-3 C K secret′ s b = secrecy mod257-letters C K secret′ s (λ i h. omega (arith, b i h))
 
 -- "demand 3 holds for equally long lists of words too": each word is 0..256, and what the keepers have are rows of share words.

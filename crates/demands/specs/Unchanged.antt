@@ -10,6 +10,7 @@ use lib.Seq.{drop-at}
 use borrow.Author.Tests.{ne-eqb}
 use Rattle.algebra.specs.Field.{Ops}
 use Rattle.header.specs.declared.order.Order.{Order}
+use Rattle.header.specs.declared.told.Told.{Told}
 use Rattle.shares.specs.Fills.{unchanged}
 use Rattle.shares.specs.Words.{WordsDone}
 use Rattle.cut.specs.Cut.{CutDone}
@@ -24,9 +25,9 @@ use Rattle.report_text.specs.declared.answer.Answered.{Answered}
 use Rattle.report_text.specs.Report.{Reported}
 
 -- the cut's tray
-pub cut-unchanged : (O : Ops) (order : Order) (stamp : ℕ) (secret random tray : List ℕ) {number : ℕ} {left : List ℕ}
-    → CutDone O order stamp secret random tray number left → (number ≡ 0 → ⊥) → left ≡ tray
-cut-unchanged O order stamp secret random tray D wrong = unchanged D wrong
+pub cut-unchanged : (O : Ops) (told : Told) (stamp : ℕ) (secret random tray : List ℕ) {number : ℕ} {left : List ℕ}
+    → CutDone O told stamp secret random tray number left → (number ≡ 0 → ⊥) → left ≡ tray
+cut-unchanged O told stamp secret random tray D wrong = unchanged D wrong
 
 -- the rows of a cut of words
 pub words-unchanged : (O : Ops) (order : Order) (words random rows : List ℕ) {number : ℕ} {left : List ℕ}
@@ -41,14 +42,14 @@ outcome-unchanged (wide ps R e) wrong = refl
 outcome-unchanged (joined ps R e) wrong = absurd (wrong refl)
 
 -- the join's room
-pub join-unchanged : {O : Ops} {order : Order} {stamp l : ℕ} {tray room left : List ℕ} {result : Joined}
-    → JoinDone O order stamp l tray room result left → (result .number ≡ 0 → ⊥) → left ≡ room
+pub join-unchanged : {O : Ops} {told : Told} {stamp l : ℕ} {tray room left : List ℕ} {result : Joined}
+    → JoinDone O told stamp l tray room result left → (result .number ≡ 0 → ⊥) → left ≡ room
 join-unchanged (refused h) wrong = refl
 join-unchanged (judged e D) wrong = outcome-unchanged D wrong
 
 -- the desk's slot
-pub store-unchanged : {order : Order} {keeper : ℕ} {held letter left : List ℕ} {result : Stored}
-    → StoreDone order keeper held letter result left → (result .number ≡ 0 → ⊥) → left ≡ held
+pub store-unchanged : {told : Told} {keeper : ℕ} {held letter left : List ℕ} {result : Stored}
+    → StoreDone told keeper held letter result left → (result .number ≡ 0 → ⊥) → left ≡ held
 unfolding storeLeaves
 store-unchanged D wrong = D .leaves ∙ rw (ne-eqb _ 0 (λ e. wrong (D .number ∙ e)))
 

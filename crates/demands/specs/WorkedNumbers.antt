@@ -25,9 +25,10 @@ use Rattle.field.specs.Modulo.{reciprocals, mod257}
 use Rattle.field.specs.Laws.{mod257-field}
 use Rattle.block.specs.Check.{allAtMost, plainCheck, weightedCheck}
 use Rattle.block.specs.AtMostLaws.{at-most-below}
-use Rattle.header.specs.declared.order.Order.{Order}
+use Rattle.header.specs.declared.told.Told.{Told}
 use Rattle.header.specs.Order.{lawfulOrder}
 use Rattle.header.specs.Terms.{lawfulStamp, termsNumber}
+use Rattle.header.specs.Told.{lawfulKey, lawfulTold}
 use Rattle.agree.specs.Agreement.{Polynomials, matches, reaching}
 use Rattle.agree.specs.ReachesLaws.{none-reaches}
 use Rattle.trials.specs.Sets.{sets}
@@ -48,39 +49,39 @@ each ws = map (λ w. w ∷ []) ws
 abbrev pub shares : List ℕ → ℕ → List ℕ → List ℕ → List (List ℕ)
 shares keepers t secret random = map (λ x. shareWords mod257 t x secret random) keepers
 
--- "One byte, t=1, f=1, n=6"
-abbrev pub order : Order
-order = record { t = 1; f = 1; n = 6 }
+-- "One byte, t=1, f=1, n=6", and any key
+abbrev pub told : ℕ → Told
+told key = record { order = record { t = 1; f = 1; n = 6 }; key = key }
 
 -- what the join may answer and leave where keepers 1, 2 and so on hold letters of the words ws, and the others' slots are zeros
-abbrev pub Allowed : ℕ → List ℕ → List ℕ → Joined → List ℕ → Type 0
-Allowed stamp room ws result left = JoinDone mod257 order stamp 1 (heldTray order stamp 1 (each ws)) room result left
+abbrev pub Allowed : ℕ → ℕ → List ℕ → List ℕ → Joined → List ℕ → Type 0
+Allowed key stamp room ws result left = JoinDone mod257 (told key) stamp 1 (heldTray (told key) stamp 1 (each ws)) room result left
 
 -- it may answer and leave this, and nothing else
-pub record Joins (stamp : ℕ) (room ws : List ℕ) (result : Joined) (left : List ℕ) : Type 0 where
-  pub allowed : Allowed stamp room ws result left
-  pub only : (result′ : Joined) (left′ : List ℕ) → Allowed stamp room ws result′ left′ → (result′ ≡ result) × (left′ ≡ left)
+pub record Joins (key stamp : ℕ) (room ws : List ℕ) (result : Joined) (left : List ℕ) : Type 0 where
+  pub allowed : Allowed key stamp room ws result left
+  pub only : (result′ : Joined) (left′ : List ℕ) → Allowed key stamp room ws result′ left′ → (result′ ≡ result) × (left′ ≡ left)
 
--- "secret 200, random word 100", any stamp, any room for one byte
-pub record WorkedNumbers (stamp : ℕ) (room : List ℕ) : Type 0 where
+-- "secret 200, random word 100", any key, any stamp, any room for one byte
+pub record WorkedNumbers (key stamp : ℕ) (room : List ℕ) : Type 0 where
   -- "share words of keepers 1..6 are 43, 143, 243, 86, 186, 29"
   pub c1 : shares (from 1 6) 1 (200 ∷ []) (100 ∷ []) ≡ each (43 ∷ 143 ∷ 243 ∷ 86 ∷ 186 ∷ 29 ∷ [])
   -- "all six, keeper 3's word made 0: need 5, answer 200, set 59"
-  pub c2 : Joins stamp room (43 ∷ 143 ∷ 0 ∷ 86 ∷ 186 ∷ 29 ∷ []) (answer 0 6 5 59 1) (200 ∷ [])
+  pub c2 : Joins key stamp room (43 ∷ 143 ∷ 0 ∷ 86 ∷ 186 ∷ 29 ∷ []) (answer 0 6 5 59 1) (200 ∷ [])
   -- "In C2 it is 1; with keeper 1 made 0 instead, it is 6": how many sets are tried
-  pub c2-keeper-1 : Joins stamp room (0 ∷ 143 ∷ 243 ∷ 86 ∷ 186 ∷ 29 ∷ []) (answer 0 6 5 62 6) (200 ∷ [])
+  pub c2-keeper-1 : Joins key stamp room (0 ∷ 143 ∷ 243 ∷ 86 ∷ 186 ∷ 29 ∷ []) (answer 0 6 5 62 6) (200 ∷ [])
   -- "keepers 3 and 4 made 0: 7"
-  pub c3 : Joins stamp room (43 ∷ 143 ∷ 0 ∷ 0 ∷ 186 ∷ 29 ∷ []) (answer 7 6 5 0 15) room
+  pub c3 : Joins key stamp room (43 ∷ 143 ∷ 0 ∷ 0 ∷ 186 ∷ 29 ∷ []) (answer 7 6 5 0 15) room
   -- "keepers 1..4 only, keeper 3 made 0: need 3, answer 200"
-  pub c4 : Joins stamp room (43 ∷ 143 ∷ 0 ∷ 86 ∷ []) (answer 0 4 3 11 1) (200 ∷ [])
+  pub c4 : Joins key stamp room (43 ∷ 143 ∷ 0 ∷ 86 ∷ []) (answer 0 4 3 11 1) (200 ∷ [])
   -- "keepers 1..3, unaltered: 200"
-  pub c5 : Joins stamp room (43 ∷ 143 ∷ 243 ∷ []) (answer 0 3 3 7 1) (200 ∷ [])
+  pub c5 : Joins key stamp room (43 ∷ 143 ∷ 243 ∷ []) (answer 0 3 3 7 1) (200 ∷ [])
   -- "the same, keeper 3 made 0: 7"
-  pub c6 : Joins stamp room (43 ∷ 143 ∷ 0 ∷ []) (answer 7 3 3 0 3) room
+  pub c6 : Joins key stamp room (43 ∷ 143 ∷ 0 ∷ []) (answer 7 3 3 0 3) room
   -- "keepers 1 and 2: 6"
-  pub c7 : Joins stamp room (43 ∷ 143 ∷ []) (answer 6 2 3 0 0) room
+  pub c7 : Joins key stamp room (43 ∷ 143 ∷ []) (answer 6 2 3 0 0) room
   -- "keepers 1..3 holding 0, 1, 2: 8"
-  pub c8 : Joins stamp room (0 ∷ 1 ∷ 2 ∷ []) (answer 8 3 3 7 1) room
+  pub c8 : Joins key stamp room (0 ∷ 1 ∷ 2 ∷ []) (answer 8 3 3 7 1) room
   -- "random word 0: all six words are 200"
   pub c9 : shares (from 1 6) 1 (200 ∷ []) (0 ∷ []) ≡ each (replicate 6 200)
   -- "t=2, f=0, n=16, secret 5, random words 7, 11: keepers 1, 2, 3, 16 hold 23, 63, 125, 106"
@@ -123,24 +124,24 @@ below-each [] b k h = absurd (not-suc-le-zero h)
 below-each (w ∷ ws) b zero h = below-cons 257 w [] (below-head 257 w ws b) (below-nil 257)
 below-each (w ∷ ws) b (suc k) h = below-each ws (below-tail 257 w ws b) k (le-of-suc-le-suc h)
 
-module _ (stamp : ℕ) (lawful : lawfulStamp stamp ≡ true) (room : List ℕ) (one : length room ≡ 1) where
+module _ (key : ℕ) (numbered : lawfulKey key ≡ true) (stamp : ℕ) (lawful : lawfulStamp stamp ≡ true) (room : List ℕ) (one : length room ≡ 1) where
   -- the outcome of the letters' words is the join's
   joins : (ws : List ℕ) → allAtMost 256 ws ≡ true → {result : Joined} {left : List ℕ}
-      → Outcome mod257 1 1 6 (λ x. leb x (length (each ws))) (λ x i. getD (getD (each ws) (x - 1) []) i 0) 1 room result left → Joins stamp room ws result left
-  unfolding lawfulOrder joinRefusal termsNumber
+      → Outcome mod257 1 1 6 (λ x. leb x (length (each ws))) (λ x i. getD (getD (each ws) (x - 1) []) i 0) 1 room result left → Joins key stamp room ws result left
+  unfolding lawfulTold lawfulOrder joinRefusal termsNumber
   joins ws b D =
-      let H : Held order stamp 1 (each ws) = record {
-        order-lawful = refl;
+      let H : Held (told key) stamp 1 (each ws) = record {
+        told-lawful = numbered;
         stamp-lawful = lawful;
         length-lawful = refl;
         size = size-each ws;
         below = below-each ws (at-most-below 256 ws b);
       } in
-      let this : Allowed stamp room ws _ _ = judged (rw (lawful, eq-eqb _ _ (length-held-tray H), eq-eqb _ _ one)) (outcome-scan (scan-held H) D) in
+      let this : Allowed key stamp room ws _ _ = judged (rw (numbered, lawful, eq-eqb _ _ (length-held-tray H), eq-eqb _ _ one)) (outcome-scan (scan-held H) D) in
       record { allowed = this; only = λ result′ left′ other. join-same mod257-letters other this }
 
   -- "Proved together: C1..C12."
-  pub worked-numbers : WorkedNumbers stamp room
+  pub worked-numbers : WorkedNumbers key stamp room
   unfolding lawfulOrder shareWords eval from count keeperSet matches allTo allAtMost total chosen sets trials reaching interpolate grow reciprocals
   worked-numbers = record {
     c1 = refl;

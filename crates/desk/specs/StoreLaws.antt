@@ -9,7 +9,7 @@ use lib.Dec.{eqb, ltb}
 use lib.ListN.{length}
 use borrow.Author.Tests.{eq-eqb, ne-eqb, eqb-true, le-ltb}
 use Rattle.lists.specs.SameBytes.{sameBytes, same-bytes-equal}
-use Rattle.header.specs.declared.order.Order.{Order}
+use Rattle.header.specs.declared.told.Told.{Told}
 use Rattle.header.specs.FirstOf.{first-wrong}
 use Rattle.header.specs.Head.{headOf}
 use Rattle.header.specs.Passing.{passed}
@@ -19,12 +19,12 @@ use Rattle.format.specs.Reading.{blockWords, judgedFrom, readOf, noHead}
 use Rattle.format.specs.ReadingBounds.{FaultFacts, FaultsIn, fault-facts}
 use Rattle.desk.specs.Desk.{ofDesk, stampIn, stampHeld, deskRight, against, offered, storeNumber, storeLeaves}
 
-module _ (order : Order) (keeper : ℕ) (held letter : List ℕ) where
+module _ (told : Told) (keeper : ℕ) (held letter : List ℕ) where
   -- a letter that is taken is as long as the slot that takes it
-  pub taken-size : storeNumber order keeper held letter ≡ 0 → length held ≡ length letter
+  pub taken-size : storeNumber told keeper held letter ≡ 0 → length held ≡ length letter
   unfolding storeNumber
   taken-size done =
-      let sizes = slots (deskRight order keeper) (eqb (length held) 2048 && eqb (length letter) 2048) (offered order keeper held letter (readOf letter)) done in
+      let sizes = slots (deskRight told keeper) (eqb (length held) 2048 && eqb (length letter) 2048) (offered told keeper held letter (readOf letter)) done in
       let one : length held ≡ 2048 = search passed in
       let two : length letter ≡ 2048 = search passed in
       one ∙ sym two
@@ -34,21 +34,21 @@ module _ (order : Order) (keeper : ℕ) (held letter : List ℕ) where
       slots true false number e = absurd (omega arith)
       slots false sized number e = absurd (omega arith)
 
-  pub leaves-size : length (storeLeaves order keeper held letter) ≡ length held
+  pub leaves-size : length (storeLeaves told keeper held letter) ≡ length held
   unfolding storeLeaves
-  leaves-size = step (eqb (storeNumber order keeper held letter) 0) (λ e. taken-size (eqb-true _ 0 e))
+  leaves-size = step (eqb (storeNumber told keeper held letter) 0) (λ e. taken-size (eqb-true _ 0 e))
     where
       step : (taken : Bool) → (taken ≡ true → length held ≡ length letter) → length (cond taken letter held) ≡ length held
       step true same = sym (same refl)
       step false same = refl
 
   -- the letter's own number comes first
-  pub offered-bad : (number place : ℕ) → FaultFacts number place → offered order keeper held letter (Bad number place) ≡ number
+  pub offered-bad : (number place : ℕ) → FaultFacts number place → offered told keeper held letter (Bad number place) ≡ number
   offered-bad number place facts =
-      first-wrong number (cond (ofDesk order keeper noHead) (against 0 (stampHeld order keeper held) (sameBytes held letter)) 16) (facts .numbered)
+      first-wrong number (cond (ofDesk told keeper noHead) (against 0 (stampHeld told keeper held) (sameBytes held letter)) 16) (facts .numbered)
 
   abbrev before : ℕ
-  before = stampHeld order keeper held
+  before = stampHeld told keeper held
 
   -- equal bytes are taken too, and that changes nothing
   newer-taken : (newer older same : Bool) → (same ≡ true → held ≡ letter)
@@ -59,8 +59,8 @@ module _ (order : Order) (keeper : ℕ) (held letter : List ℕ) where
   newer-taken false false false equal = refl
 
   newer-read : (reading : Reading) → FaultsIn reading
-      → cond (eqb (offered order keeper held letter reading) 0) letter held ≡ cond (ltb before (stampIn order keeper reading)) letter held
-  newer-read (Good h) facts = ours (ofDesk order keeper h)
+      → cond (eqb (offered told keeper held letter reading) 0) letter held ≡ cond (ltb before (stampIn told keeper reading)) letter held
+  newer-read (Good h) facts = ours (ofDesk told keeper h)
     where
       ours : (our : Bool)
           → cond (eqb (cond our (against (h .stamp) before (sameBytes held letter)) 16) 0) letter held
@@ -69,16 +69,16 @@ module _ (order : Order) (keeper : ℕ) (held letter : List ℕ) where
       ours false = rw (le-ltb before 0 zero-le)
   newer-read (Bad number place) facts = rw (offered-bad number place facts, ne-eqb number 0 (facts .numbered), le-ltb before 0 zero-le)
 
-  module _ (right : deskRight order keeper ≡ true) (size : length held ≡ 2048) where
+  module _ (right : deskRight told keeper ≡ true) (size : length held ≡ 2048) where
     -- a letter of the wrong length does not read, with the desk's own number
-    number-offered : storeNumber order keeper held letter ≡ offered order keeper held letter (readOf letter)
+    number-offered : storeNumber told keeper held letter ≡ offered told keeper held letter (readOf letter)
     unfolding storeNumber readOf
     number-offered = rw (right, eq-eqb (length held) 2048 size) (step (eqb (length letter) 2048) (judgedFrom letter (headOf (blockWords letter 0)) 0))
       where
-        step : (sized : Bool) (judged : Reading) → cond sized (offered order keeper held letter (cond sized judged (Bad 4 0))) 4 ≡ offered order keeper held letter (cond sized judged (Bad 4 0))
+        step : (sized : Bool) (judged : Reading) → cond sized (offered told keeper held letter (cond sized judged (Bad 4 0))) 4 ≡ offered told keeper held letter (cond sized judged (Bad 4 0))
         step true judged = refl
         step false judged = refl
 
-    pub leaves-newer : storeLeaves order keeper held letter ≡ cond (ltb (stampHeld order keeper held) (stampHeld order keeper letter)) letter held
+    pub leaves-newer : storeLeaves told keeper held letter ≡ cond (ltb (stampHeld told keeper held) (stampHeld told keeper letter)) letter held
     unfolding storeLeaves stampHeld
     leaves-newer = rw number-offered (newer-read (readOf letter) (fault-facts letter))

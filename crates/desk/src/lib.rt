@@ -11,7 +11,8 @@ use format::reader::Reading;
 use format::reader::read;
 use header::head::Head;
 use header::order;
-use header::order::Order;
+use header::told;
+use header::told::Told;
 
 // What storing a letter answers: the number, and the place of a fault in the letter.
 pub struct Stored {
@@ -20,26 +21,25 @@ pub struct Stored {
 }
 
 // Whether there is such a desk.
-fn right(o: Order, keeper: usize) -> bool
-    ensures { λ r. ⌜ r ≡ deskRight o keeper ⌝ }
+fn right(told: Told, keeper: usize) -> bool
+    ensures { λ r. ⌜ r ≡ deskRight told keeper ⌝ }
 {
-    order::lawful(o) && order::has_keeper(o, keeper)
+    told::lawful(told) && order::has_keeper(told.order, keeper)
 }
 
-// Whether a head is of this desk's order and keeper.
-fn is_ours(o: Order, keeper: usize, h: Head) -> bool
-    ensures { λ r. ⌜ r ≡ ofDesk o keeper h ⌝ }
+// Whether a head is of this desk's order, key and keeper.
+fn is_ours(told: Told, keeper: usize, h: Head) -> bool
+    ensures { λ r. ⌜ r ≡ ofDesk told keeper h ⌝ }
 {
-    let other = h.order;
-    order::same(other, o) && h.keeper == keeper
+    told::same(h.told, told) && h.keeper == keeper
 }
 
 // The stamp of a slot's letter where it is good for this desk, and 0 where it is not.
-fn stamp_held(o: Order, keeper: usize, slot: &[u8]) -> u32
-    ensures { λ r. ⌜ r ≡ stampHeld o keeper (now (slot .entry)) ⌝ }
+fn stamp_held(told: Told, keeper: usize, slot: &[u8]) -> u32
+    ensures { λ r. ⌜ r ≡ stampHeld told keeper (now (slot .entry)) ⌝ }
 {
     match read(slot) {
-        Reading::Good(h) => { if is_ours(o, keeper, h) { h.stamp } else { 0 } }
+        Reading::Good(h) => { if is_ours(told, keeper, h) { h.stamp } else { 0 } }
         Reading::Bad {
             number: _,
             place: _,
@@ -59,10 +59,10 @@ fn copy(held: &mut [u8], letter: &[u8])
 }
 
 // A good letter of this desk with its stamp, against what is held: 0, 14 or 15.
-fn against_held(o: Order, keeper: usize, stamp: u32, held: &[u8], letter: &[u8]) -> u32
-    ensures { λ r. ⌜ r ≡ against stamp (stampHeld o keeper (now (held .entry))) (sameBytes (now (held .entry)) (now (letter .entry))) ⌝ }
+fn against_held(told: Told, keeper: usize, stamp: u32, held: &[u8], letter: &[u8]) -> u32
+    ensures { λ r. ⌜ r ≡ against stamp (stampHeld told keeper (now (held .entry))) (sameBytes (now (held .entry)) (now (letter .entry))) ⌝ }
 {
-    let before = stamp_held(o, keeper, held);
+    let before = stamp_held(told, keeper, held);
     if before < stamp {
         return 0;
     }
@@ -73,14 +73,14 @@ fn against_held(o: Order, keeper: usize, stamp: u32, held: &[u8], letter: &[u8])
 }
 
 // What a letter is found to be where there is such a desk and both are slots.
-fn judge_letter(o: Order, keeper: usize, held: &[u8], letter: &[u8]) -> Stored
-    ensures { λ r. ⌜ (r .number ≡ offered o keeper (now (held .entry)) (now (letter .entry)) (readOf (now (letter .entry)))) × (r .place ≡ placeOf (readOf (now (letter .entry)))) ⌝ }
+fn judge_letter(told: Told, keeper: usize, held: &[u8], letter: &[u8]) -> Stored
+    ensures { λ r. ⌜ (r .number ≡ offered told keeper (now (held .entry)) (now (letter .entry)) (readOf (now (letter .entry)))) × (r .place ≡ placeOf (readOf (now (letter .entry)))) ⌝ }
 {
     match read(letter) {
         Reading::Good(h) => {
-            if is_ours(o, keeper, h) {
+            if is_ours(told, keeper, h) {
                 Stored {
-                    number: against_held(o, keeper, h.stamp, held, letter),
+                    number: against_held(told, keeper, h.stamp, held, letter),
                     place: 0,
                 }
             } else {
@@ -101,10 +101,10 @@ fn are_slots(held: &[u8], letter: &[u8]) -> bool
     held.len() == 2048 && letter.len() == 2048
 }
 
-fn judge(o: Order, keeper: usize, held: &[u8], letter: &[u8]) -> Stored
-    ensures { λ r. ⌜ (r .number ≡ storeNumber o keeper (now (held .entry)) (now (letter .entry))) × (r .place ≡ storePlace o keeper (now (held .entry)) (now (letter .entry))) ⌝ }
+fn judge(told: Told, keeper: usize, held: &[u8], letter: &[u8]) -> Stored
+    ensures { λ r. ⌜ (r .number ≡ storeNumber told keeper (now (held .entry)) (now (letter .entry))) × (r .place ≡ storePlace told keeper (now (held .entry)) (now (letter .entry))) ⌝ }
 {
-    if !right(o, keeper) {
+    if !right(told, keeper) {
         return Stored {
             number: 1,
             place: 0,
@@ -116,14 +116,14 @@ fn judge(o: Order, keeper: usize, held: &[u8], letter: &[u8]) -> Stored
             place: 0,
         };
     }
-    judge_letter(o, keeper, held, letter)
+    judge_letter(told, keeper, held, letter)
 }
 
 // Judges a letter, and holds it where it is newer than what is held.
-pub fn store(o: Order, keeper: usize, held: &mut [u8], letter: &[u8]) -> Stored
-    ensures { λ r. ⌜ StoreDone o keeper (now (held .entry)) (now (letter .entry)) r (now (held .exit)) ⌝ }
+pub fn store(told: Told, keeper: usize, held: &mut [u8], letter: &[u8]) -> Stored
+    ensures { λ r. ⌜ StoreDone told keeper (now (held .entry)) (now (letter .entry)) r (now (held .exit)) ⌝ }
 {
-    let stored = judge(o, keeper, held, letter);
+    let stored = judge(told, keeper, held, letter);
     if stored.number == 0 {
         copy(held, letter);
     }
@@ -131,16 +131,16 @@ pub fn store(o: Order, keeper: usize, held: &mut [u8], letter: &[u8]) -> Stored
 }
 
 // The number that fetching has: 1, 4, 17, or 0.
-pub fn fetch_number(o: Order, keeper: usize, held: &[u8]) -> u32
-    ensures { λ r. ⌜ r ≡ fetchNumber o keeper (now (held .entry)) ⌝ }
+pub fn fetch_number(told: Told, keeper: usize, held: &[u8]) -> u32
+    ensures { λ r. ⌜ r ≡ fetchNumber told keeper (now (held .entry)) ⌝ }
 {
-    if !right(o, keeper) {
+    if !right(told, keeper) {
         return 1;
     }
     if held.len() != 2048 {
         return 4;
     }
-    if 0 < stamp_held(o, keeper, held) {
+    if 0 < stamp_held(told, keeper, held) {
         0
     } else {
         17
@@ -148,10 +148,10 @@ pub fn fetch_number(o: Order, keeper: usize, held: &[u8]) -> u32
 }
 
 // The held slot as a part of what was lent; an empty part where the number is not 0.
-pub fn fetch(o: Order, keeper: usize, held: &[u8]) -> &[u8]
-    ensures { λ r. ⌜ now r ≡ fetched o keeper (now (held .entry)) ⌝ }
+pub fn fetch(told: Told, keeper: usize, held: &[u8]) -> &[u8]
+    ensures { λ r. ⌜ now r ≡ fetched told keeper (now (held .entry)) ⌝ }
 {
-    if fetch_number(o, keeper, held) == 0 {
+    if fetch_number(told, keeper, held) == 0 {
         &held[..]
     } else {
         &held[..0]

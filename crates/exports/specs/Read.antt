@@ -11,9 +11,10 @@ abbrev pub numbers : ℕ → ℕ → Head → ReadResult
 numbers number place h = record {
   number = number;
   place = place;
-  t = h .order .t;
-  f = h .order .f;
-  n = h .order .n;
+  t = h .told .order .t;
+  f = h .told .order .f;
+  n = h .told .order .n;
+  key = h .told .key;
   keeper = h .keeper;
   stamp = h .stamp;
   length = h .length;

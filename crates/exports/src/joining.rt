@@ -1,9 +1,9 @@
 // cs_join: the secret of a tray, or why not.
 ghost use Rattle.field.specs.Modulo.{mod257};
 ghost use Rattle.join.specs.Join.{JoinDone};
-ghost use Rattle.exports.specs.Told.{orderTold};
+ghost use Rattle.exports.specs.Told.{asTold};
 ghost use Rattle.exports.specs.Join.{joinedAs};
-use crate::told::order_told;
+use crate::told::as_told;
 use join::join;
 
 #[repr(C)]
@@ -20,15 +20,16 @@ pub extern "C" fn cs_join(
     t: u32,
     f: u32,
     n: u32,
+    key: u32,
     stamp: u32,
     length: u32,
     tray: &[u8],
     room: &mut [u8],
 ) -> JoinResult
-    ensures { λ r. ⌜ JoinDone mod257 (orderTold t f n) stamp length (now (tray .entry)) (now (room .entry)) (joinedAs r) (now (room .exit)) ⌝ }
+    ensures { λ r. ⌜ JoinDone mod257 (asTold t f n key) stamp length (now (tray .entry)) (now (room .entry)) (joinedAs r) (now (room .exit)) ⌝ }
 {
     let l = length as usize;
-    let joined = join(order_told(t, f, n), stamp, l, tray, room);
+    let joined = join(as_told(t, f, n, key), stamp, l, tray, room);
     JoinResult {
         number: joined.number,
         usable: joined.usable,

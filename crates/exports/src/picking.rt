@@ -1,9 +1,9 @@
 // cs_pick: which stamp and length of a tray to join.
 ghost use Rattle.field.specs.Modulo.{mod257};
 ghost use Rattle.pick.specs.Pick.{PickDone};
-ghost use Rattle.exports.specs.Told.{orderTold};
+ghost use Rattle.exports.specs.Told.{asTold};
 ghost use Rattle.exports.specs.Pick.{pickedAs};
-use crate::told::order_told;
+use crate::told::as_told;
 use pick::pick;
 
 #[repr(C)]
@@ -14,10 +14,10 @@ pub struct PickResult {
 }
 
 #[no_mangle]
-pub extern "C" fn cs_pick(t: u32, f: u32, n: u32, tray: &[u8]) -> PickResult
-    ensures { λ r. ⌜ PickDone mod257 (orderTold t f n) (now (tray .entry)) (pickedAs r) ⌝ }
+pub extern "C" fn cs_pick(t: u32, f: u32, n: u32, key: u32, tray: &[u8]) -> PickResult
+    ensures { λ r. ⌜ PickDone mod257 (asTold t f n key) (now (tray .entry)) (pickedAs r) ⌝ }
 {
-    let picked = pick(order_told(t, f, n), tray);
+    let picked = pick(as_told(t, f, n, key), tray);
     PickResult {
         number: picked.number,
         stamp: picked.stamp,

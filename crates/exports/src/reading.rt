@@ -15,6 +15,7 @@ pub struct ReadResult {
     pub t: u32,
     pub f: u32,
     pub n: u32,
+    pub key: u32,
     pub keeper: u32,
     pub stamp: u32,
     pub length: u32,
@@ -24,13 +25,14 @@ fn good(h: Head) -> ReadResult
     requires { ⌜ lawfulHead h ≡ true ⌝ }
     ensures { λ r. ⌜ r ≡ numbers 0 0 h ⌝ }
 {
-    let o = h.order;
+    let o = h.told.order;
     ReadResult {
         number: 0,
         place: 0,
         t: o.t as u32,
         f: o.f as u32,
         n: o.n as u32,
+        key: h.told.key as u32,
         keeper: h.keeper as u32,
         stamp: h.stamp,
         length: h.length as u32,
@@ -49,6 +51,7 @@ pub extern "C" fn cs_read(slot: &[u8]) -> ReadResult
             t: 0,
             f: 0,
             n: 0,
+            key: 0,
             keeper: 0,
             stamp: 0,
             length: 0,

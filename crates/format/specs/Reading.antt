@@ -66,7 +66,7 @@ placeOf (Bad number place) = place
 
 -- "Unless stated, every other number in a refusal's result is 0."
 abbrev pub noHead : Head
-noHead = record { order = record { t = 0; f = 0; n = 0 }; keeper = 0; stamp = 0; length = 0 }
+noHead = record { told = record { order = record { t = 0; f = 0; n = 0 }; key = 0 }; keeper = 0; stamp = 0; length = 0 }
 
 -- "its header's numbers"; zeros where the letter is not good
 abbrev pub readHead : Reading → Head

@@ -6,28 +6,30 @@ use mathlib.Core.List.{List, [], _∷_}
 use lib.Dec.{eqb}
 use lib.ListN.{getD}
 use Rattle.header.specs.declared.order.Order.{Order}
+use Rattle.header.specs.declared.told.Told.{Told}
 use Rattle.header.specs.declared.head.Head.{Head}
-use Rattle.header.specs.Order.{lawfulOrder, lawfulKeeper, sameOrder}
+use Rattle.header.specs.Order.{lawfulKeeper}
 use Rattle.header.specs.Terms.{lawfulStamp, lawfulLength}
+use Rattle.header.specs.Told.{lawfulTold, sameTold}
 
--- what number 12 asks of a head: not "an unlawful order, a keeper outside 1..n, stamp 0, L out of range"
+-- what number 12 asks of a head: not "an unlawful order, a keeper outside 1..n, stamp 0, L out of range", nor "word 13 being 256"
 unfoldable pub lawfulHead : Head → Bool
-lawfulHead h = lawfulOrder (h .order) && (lawfulKeeper (h .order) (h .keeper) && (lawfulStamp (h .stamp) && lawfulLength (h .length)))
+lawfulHead h = lawfulTold (h .told) && (lawfulKeeper (h .told .order) (h .keeper) && (lawfulStamp (h .stamp) && lawfulLength (h .length)))
 
--- the same order, keeper, stamp and length
+-- the same order, key, keeper, stamp and length
 unfoldable pub sameHead : Head → Head → Bool
-sameHead a b = sameOrder (a .order) (b .order) && (eqb (a .keeper) (b .keeper) && (eqb (a .stamp) (b .stamp) && eqb (a .length) (b .length)))
+sameHead a b = sameTold (a .told) (b .told) && (eqb (a .keeper) (b .keeper) && (eqb (a .stamp) (b .stamp) && eqb (a .length) (b .length)))
 
 -- byte k of a number, counted from the low end
 abbrev pub byteOf : ℕ → ℕ → ℕ
 byteOf k x = x / 256 ^ k % 256
 
--- words 0..15 of block p, as the page's table has them
+-- words 0..15 of block p, as the page's table has them; word 13 is the key
 unfoldable pub headWords : Head → ℕ → List ℕ
 headWords h p =
-    81 ∷ 1 ∷ h .order .t ∷ h .order .f ∷ h .order .n ∷ h .keeper
+    81 ∷ 1 ∷ h .told .order .t ∷ h .told .order .f ∷ h .told .order .n ∷ h .keeper
     ∷ byteOf 3 (h .stamp) ∷ byteOf 2 (h .stamp) ∷ byteOf 1 (h .stamp) ∷ byteOf 0 (h .stamp)
-    ∷ byteOf 1 (h .length) ∷ byteOf 0 (h .length) ∷ p ∷ 0 ∷ 0 ∷ 0 ∷ []
+    ∷ byteOf 1 (h .length) ∷ byteOf 0 (h .length) ∷ p ∷ h .told .key ∷ 0 ∷ 0 ∷ []
 
 -- the low byte of word i
 abbrev pub lowByte : List ℕ → ℕ → ℕ
@@ -36,6 +38,10 @@ lowByte ws i = getD ws i 0 % 256
 -- What header words say. A stamp and a length stand "one byte a word, high first"; number 12 holds those words to be bytes.
 abbrev pub orderOf : List ℕ → Order
 orderOf ws = record { t = getD ws 2 0; f = getD ws 3 0; n = getD ws 4 0 }
+
+-- what the letter is of: "Word 13 of each block becomes the key number"
+abbrev pub toldOf : List ℕ → Told
+toldOf ws = record { order = orderOf ws; key = getD ws 13 0 }
 
 -- words 6..9: "stamp, one byte a word, high first"
 abbrev pub stampOf : List ℕ → ℕ
@@ -47,4 +53,4 @@ lengthOf ws = lowByte ws 10 * 256 + lowByte ws 11
 
 -- all of it; the keeper is word 5
 unfoldable pub headOf : List ℕ → Head
-headOf ws = record { order = orderOf ws; keeper = getD ws 5 0; stamp = stampOf ws; length = lengthOf ws }
+headOf ws = record { told = toldOf ws; keeper = getD ws 5 0; stamp = stampOf ws; length = lengthOf ws }

@@ -41,7 +41,7 @@ unfolding headOf headWords
 head-of-words h p rest facts =
     let stamp = four-bytes (h .stamp) (facts .of-terms .stamp-most) in
     let length = two-bytes (h .length) (facts .of-terms .length-most) in
-    λ i. record { order = h .order; keeper = h .keeper; stamp = stamp i; length = length i }
+    λ i. record { told = h .told; keeper = h .keeper; stamp = stamp i; length = length i }
 
 byte-most : (x : ℕ) → x % 256 ≤ 255
 byte-most x = omega arith
@@ -70,10 +70,11 @@ pub below-head-words : (h : Head) (p : ℕ) → lawfulHead h ≡ true → p < 4 
 unfolding headWords allAtMost
 below-head-words h p lawful place =
     let facts = lawful-head-facts h lawful in
-    let t : h .order .t ≤ 256 = omega arith in
-    let f : h .order .f ≤ 256 = omega arith in
-    let n : h .order .n ≤ 256 = omega arith in
+    let t : h .told .order .t ≤ 256 = omega arith in
+    let f : h .told .order .f ≤ 256 = omega arith in
+    let n : h .told .order .n ≤ 256 = omega arith in
     let keeper : h .keeper ≤ 256 = omega arith in
+    let key : h .told .key ≤ 256 = omega arith in
     let there : p ≤ 256 = omega arith in
     at-most-below 256 (headWords h p) (simp (passes, byte-within))
 
@@ -106,10 +107,9 @@ module _ (p : ℕ) (ws : List ℕ) (size : 16 ≤ length ws) where
       let stamp = four-back (getD ws 6 0) (getD ws 7 0) (getD ws 8 0) (getD ws 9 0) (byte 0 (omega arith)) (byte 1 (omega arith)) (byte 2 (omega arith)) (byte 3 (omega arith)) in
       let length = two-back (getD ws 10 0) (getD ws 11 0) (byte 4 (omega arith)) (byte 5 (omega arith)) in
       let there : getD ws 12 0 ≡ p = search passed in
-      let unused = part-most 0 13 3 (omega arith) (search passed) in
-      let zero-13 : getD ws 13 0 ≡ 0 = omega (arith, unused 0 (omega arith)) in
-      let zero-14 : getD ws 14 0 ≡ 0 = omega (arith, unused 1 (omega arith)) in
-      let zero-15 : getD ws 15 0 ≡ 0 = omega (arith, unused 2 (omega arith)) in
+      let unused = part-most 0 14 2 (omega arith) (search passed) in
+      let zero-14 : getD ws 14 0 ≡ 0 = omega (arith, unused 0 (omega arith)) in
+      let zero-15 : getD ws 15 0 ≡ 0 = omega (arith, unused 1 (omega arith)) in
       listed-is (λ i. getD ws i 0) 16 (take 16 ws) (length-take-le 16 ws size) (λ i l. getD-take 16 ws i 0 l) ∙ cc
 
 pub header-words : (h : Head) (p : ℕ) (ws : List ℕ) → 16 ≤ length ws → markRight ws ≡ true → headerRight h p ws ≡ true → take 16 ws ≡ headWords h p

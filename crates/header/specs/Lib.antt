@@ -1,4 +1,5 @@
 pub mod Order
+pub mod Told
 pub mod FirstOf
 pub mod Terms
 pub mod Head
@@ -6,6 +7,7 @@ pub mod Rules
 pub mod Passing
 pub mod Chain
 pub mod OrderLaws
+pub mod ToldLaws
 pub mod TermsLaws
 pub mod HeadLaws
 pub mod HeaderLaws

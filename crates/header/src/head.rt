@@ -4,15 +4,17 @@ ghost use mathlib.Core.Bool.{true};
 ghost use Prim.Native.Nat.{_<_};
 ghost use lib.ListN.{length, getD};
 ghost use Rattle.block.specs.Words.{wordsOf};
-ghost use Rattle.header.specs.Head.{lawfulHead, sameHead, headWords, orderOf, stampOf, lengthOf, headOf, lowByte};
+ghost use Rattle.header.specs.Head.{lawfulHead, sameHead, headWords, orderOf, toldOf, stampOf, lengthOf, headOf, lowByte};
 use crate::order;
 use crate::order::Order;
 use crate::terms::lawful_length;
 use crate::terms::lawful_stamp;
+use crate::told;
+use crate::told::Told;
 use block::words::word_at;
 
 pub struct Head {
-    pub order: Order,
+    pub told: Told,
     pub keeper: usize,
     pub stamp: u32,
     pub length: usize,
@@ -21,17 +23,15 @@ pub struct Head {
 pub fn lawful(h: Head) -> bool
     ensures { λ r. ⌜ r ≡ lawfulHead h ⌝ }
 {
-    let o = h.order;
-    order::lawful(o)
-        && (order::has_keeper(o, h.keeper) && (lawful_stamp(h.stamp) && lawful_length(h.length)))
+    told::lawful(h.told)
+        && (order::has_keeper(h.told.order, h.keeper)
+            && (lawful_stamp(h.stamp) && lawful_length(h.length)))
 }
 
 pub fn same(a: Head, b: Head) -> bool
     ensures { λ r. ⌜ r ≡ sameHead a b ⌝ }
 {
-    let here = a.order;
-    let there = b.order;
-    order::same(here, there)
+    told::same(a.told, b.told)
         && (a.keeper == b.keeper && (a.stamp == b.stamp && a.length == b.length))
 }
 
@@ -40,7 +40,8 @@ pub fn words(h: Head, p: usize) -> [u16; 16]
     requires { ⌜ (lawfulHead h ≡ true) × (p < 4) ⌝ }
     ensures { λ r. ⌜ r ≡ headWords h p ⌝ }
 {
-    let o = h.order;
+    let told = h.told;
+    let o = told.order;
     let stamp = h.stamp;
     let length = h.length;
     [
@@ -57,7 +58,7 @@ pub fn words(h: Head, p: usize) -> [u16; 16]
         (length / 256 % 256) as u16,
         (length % 256) as u16,
         p as u16,
-        0,
+        told.key as u16,
         0,
         0,
     ]
@@ -90,6 +91,17 @@ fn order_of(block: &[u8]) -> Order
     }
 }
 
+fn told_of(block: &[u8]) -> Told
+    requires { ⌜ length (now block) ≡ 512 ⌝ }
+    ensures { λ r. ⌜ r ≡ toldOf (wordsOf (now (block .entry))) ⌝ }
+{
+    let order = order_of(block);
+    Told {
+        order,
+        key: wide(block, 13),
+    }
+}
+
 fn stamp_of(block: &[u8]) -> u32
     requires { ⌜ length (now block) ≡ 512 ⌝ }
     ensures { λ r. ⌜ r ≡ stampOf (wordsOf (now (block .entry))) ⌝ }
@@ -109,9 +121,9 @@ pub fn head_of(block: &[u8]) -> Head
     requires { ⌜ length (now block) ≡ 512 ⌝ }
     ensures { λ r. ⌜ r ≡ headOf (wordsOf (now (block .entry))) ⌝ }
 {
-    let order = order_of(block);
+    let told = told_of(block);
     Head {
-        order,
+        told,
         keeper: wide(block, 5),
         stamp: stamp_of(block),
         length: length_of(block),

@@ -22,7 +22,7 @@ fn place_right(block: &[u8], place: usize) -> bool
     requires { ⌜ (length (now block) ≡ 512) × (place < 4) ⌝ }
     ensures { λ r. ⌜ r ≡ placeRight place (wordsOf (now (block .entry))) ⌝ }
 {
-    word_at(block, 12) == place as u16 && all_at_most(block, 13, 16, 0)
+    word_at(block, 12) == place as u16 && all_at_most(block, 14, 16, 0)
 }
 
 pub fn header_right(first: Head, place: usize, block: &[u8]) -> bool

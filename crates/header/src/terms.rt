@@ -1,8 +1,8 @@
-// What every call with a secret is told: an order, a stamp and a length.
+// What every call with a secret is told: an order and a key, a stamp and a length.
 ghost use mathlib.Core.Path.{_≡_};
 ghost use Rattle.header.specs.Terms.{lawfulStamp, lawfulLength, termsNumber};
-use crate::order;
-use crate::order::Order;
+use crate::told;
+use crate::told::Told;
 
 pub fn lawful_stamp(stamp: u32) -> bool
     ensures { λ r. ⌜ r ≡ lawfulStamp stamp ⌝ }
@@ -17,10 +17,10 @@ pub fn lawful_length(l: usize) -> bool
 }
 
 // The number of the first that is not lawful: 1, 2, 3; or 0 where all are.
-pub fn terms_number(o: Order, stamp: u32, l: usize) -> u32
-    ensures { λ r. ⌜ r ≡ termsNumber o stamp l ⌝ }
+pub fn terms_number(told: Told, stamp: u32, l: usize) -> u32
+    ensures { λ r. ⌜ r ≡ termsNumber told stamp l ⌝ }
 {
-    if !order::lawful(o) {
+    if !told::lawful(told) {
         return 1;
     }
     if !lawful_length(l) {

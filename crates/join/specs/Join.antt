@@ -12,7 +12,7 @@ use Rattle.lists.specs.From.{from}
 use Rattle.lists.specs.KeeperSet.{keeperSet}
 use Rattle.algebra.specs.Field.{Ops}
 use Rattle.block.specs.Check.{allAtMost}
-use Rattle.header.specs.declared.order.Order.{Order}
+use Rattle.header.specs.declared.told.Told.{Told}
 use Rattle.header.specs.FirstOf.{firstOf}
 use Rattle.header.specs.Terms.{termsNumber}
 use Rattle.tray.specs.Tray.{usable, wordOf}
@@ -21,10 +21,10 @@ use Rattle.trials.specs.Sets.{sets}
 use Rattle.trials.specs.Trials.{trials}
 use Rattle.join.specs.declared.Joined.{Joined}
 
--- the refusals that need no letter: 1, 2, 3 of what is told, then 4 of what is lent
-unfoldable pub joinRefusal : Order → ℕ → ℕ → List ℕ → List ℕ → ℕ
-joinRefusal order stamp l tray room =
-    firstOf (termsNumber order stamp l) (cond (eqb (length tray) (2048 * order .n) && eqb (length room) l) 0 4)
+-- the refusals that need no letter: 1, 2, 3 of what is told, the key with the order, then 4 of what is lent
+unfoldable pub joinRefusal : Told → ℕ → ℕ → List ℕ → List ℕ → ℕ
+joinRefusal told stamp l tray room =
+    firstOf (termsNumber told stamp l) (cond (eqb (length tray) (2048 * told .order .n) && eqb (length room) l) 0 4)
 
 -- "The result has the number, m, need, and the keepers that match as a 16-bit set"; "its result gets a count of trials"
 abbrev pub answer : ℕ → ℕ → ℕ → ℕ → ℕ → Joined
@@ -51,9 +51,9 @@ pub data Outcome (O : Ops) (t f n : ℕ) (us : ℕ → Bool) (word : ℕ → ℕ
       → Outcome O t f n us word l room (answer 0 (count us (from 1 n)) (needed t f n us) (keeperSet (agreeing O us word l ps) n) (hunted O t f n us word l)) (constants ps)
 
 -- the join's promise: a refusal, or the outcome of the usable letters
-pub data JoinDone (O : Ops) (order : Order) (stamp l : ℕ) (tray room : List ℕ) : Joined → List ℕ → Type 0 where
-  refused : (joinRefusal order stamp l tray room ≡ 0 → ⊥)
-      → JoinDone O order stamp l tray room (answer (joinRefusal order stamp l tray room) 0 0 0 0) room
-  judged : {result : Joined} {left : List ℕ} → joinRefusal order stamp l tray room ≡ 0
-      → Outcome O (order .t) (order .f) (order .n) (usable order stamp l tray) (wordOf tray l) l room result left
-      → JoinDone O order stamp l tray room result left
+pub data JoinDone (O : Ops) (told : Told) (stamp l : ℕ) (tray room : List ℕ) : Joined → List ℕ → Type 0 where
+  refused : (joinRefusal told stamp l tray room ≡ 0 → ⊥)
+      → JoinDone O told stamp l tray room (answer (joinRefusal told stamp l tray room) 0 0 0 0) room
+  judged : {result : Joined} {left : List ℕ} → joinRefusal told stamp l tray room ≡ 0
+      → Outcome O (told .order .t) (told .order .f) (told .order .n) (usable told stamp l tray) (wordOf tray l) l room result left
+      → JoinDone O told stamp l tray room result left

@@ -8,9 +8,9 @@ use native.Mathlib.Omega.{arith}
 use lib.Dec.{eqb, eqb·suc-zero}
 use lib.ListN.{length}
 use Rattle.algebra.specs.Field.{Ops}
-use Rattle.header.specs.declared.order.Order.{Order}
+use Rattle.header.specs.declared.told.Told.{Told}
 use Rattle.header.specs.FirstOf.{firstOf, both-right}
-use Rattle.header.specs.Order.{lawfulOrder}
+use Rattle.header.specs.Told.{lawfulTold}
 use Rattle.header.specs.Passing.{passed, passes, passing}
 use Rattle.header.specs.Terms.{lawfulStamp, lawfulLength, termsNumber}
 use Rattle.header.specs.TermsLaws.{TermsFacts, told-facts, facts-told}
@@ -31,32 +31,32 @@ first-most : (one two : ℕ) → one ≤ 4 → two ≤ 4 → firstOf one two ≤
 first-most zero two a b = b
 first-most (suc one) two a b = rw eqb·suc-zero a
 
-module _ (order : Order) (stamp l : ℕ) (tray room : List ℕ) where
+module _ (told : Told) (stamp l : ℕ) (tray room : List ℕ) where
   -- none is greater than 4
-  pub refusal-most : joinRefusal order stamp l tray room ≤ 4
+  pub refusal-most : joinRefusal told stamp l tray room ≤ 4
   unfolding joinRefusal termsNumber
   refusal-most =
-      first-most (termsNumber order stamp l) _ (of-three (lawfulOrder order) (lawfulLength l) (lawfulStamp stamp))
-      (of-one (eqb (length tray) (2048 * order .n) && eqb (length room) l))
+      first-most (termsNumber told stamp l) _ (of-three (lawfulTold told) (lawfulLength l) (lawfulStamp stamp))
+      (of-one (eqb (length tray) (2048 * told .order .n) && eqb (length room) l))
 
   pub record JoinFacts : Type 0 where
-    pub of-terms : TermsFacts order stamp l
-    pub tray-lent : length tray ≡ 2048 * order .n
+    pub of-terms : TermsFacts told stamp l
+    pub tray-lent : length tray ≡ 2048 * told .order .n
     pub room-lent : length room ≡ l
 
-  pub accepted-facts : joinRefusal order stamp l tray room ≡ 0 → JoinFacts
+  pub accepted-facts : joinRefusal told stamp l tray room ≡ 0 → JoinFacts
   unfolding joinRefusal
   accepted-facts e =
-      let right = both-right (termsNumber order stamp l) _ e in
-      let lent-right = passing (eqb (length tray) (2048 * order .n) && eqb (length room) l) 0 3 (right .1) .0 in
-      record { of-terms = told-facts order stamp l (right .0); tray-lent = search passed; room-lent = search passed }
+      let right = both-right (termsNumber told stamp l) _ e in
+      let lent-right = passing (eqb (length tray) (2048 * told .order .n) && eqb (length room) l) 0 3 (right .1) .0 in
+      record { of-terms = told-facts told stamp l (right .0); tray-lent = search passed; room-lent = search passed }
 
-  pub facts-accepted : JoinFacts → joinRefusal order stamp l tray room ≡ 0
+  pub facts-accepted : JoinFacts → joinRefusal told stamp l tray room ≡ 0
   unfolding joinRefusal
   facts-accepted h =
-      simp (passes, facts-told order stamp l (h .of-terms), h .tray-lent, h .room-lent)
+      simp (passes, facts-told told stamp l (h .of-terms), h .tray-lent, h .room-lent)
 
   -- a refusal is the promise already: its number, and the room as it was
-  pub refused-done : (O : Ops) (number : ℕ) → number ≡ joinRefusal order stamp l tray room → (number ≡ 0 → ⊥)
-      → JoinDone O order stamp l tray room (answer number 0 0 0 0) room
+  pub refused-done : (O : Ops) (number : ℕ) → number ≡ joinRefusal told stamp l tray room → (number ≡ 0 → ⊥)
+      → JoinDone O told stamp l tray room (answer number 0 0 0 0) room
   refused-done O number e other = rw e (refused (λ z. other (e ∙ z)))

@@ -11,7 +11,7 @@ use crate::refusal::refusal;
 use crate::secret::reveal;
 use agree::agreement::agreement;
 use agree::agreement::need_of;
-use header::order::Order;
+use header::told::Told;
 use tray::scan;
 use trials::all_sets;
 use trials::trials_within;
@@ -65,27 +65,27 @@ fn judge(t: usize, f: usize, usable: u16, rows: &[u16], room: &mut [u8]) -> Join
 
 // The join that nothing forbids, with rows to work in, whatever field words they hold.
 pub fn join_over(
-    o: Order,
+    told: Told,
     stamp: u32,
     l: usize,
     tray: &[u8],
     rows: &mut [u16],
     room: &mut [u8],
 ) -> Joined
-    requires { ⌜ joinRefusal o stamp l (now tray) (now room) ≡ 0 ⌝ ∗ ⌜ Rows (now rows) ⌝ }
-    ensures { λ r. ⌜ JoinDone mod257 o stamp l (now (tray .entry)) (now (room .entry)) r (now (room .exit)) × Rows (now (rows .exit)) ⌝ }
+    requires { ⌜ joinRefusal told stamp l (now tray) (now room) ≡ 0 ⌝ ∗ ⌜ Rows (now rows) ⌝ }
+    ensures { λ r. ⌜ JoinDone mod257 told stamp l (now (tray .entry)) (now (room .entry)) r (now (room .exit)) × Rows (now (rows .exit)) ⌝ }
 {
-    let usable = scan(o, stamp, l, tray, rows);
-    judge(o.t, o.f, usable, rows, room)
+    let usable = scan(told, stamp, l, tray, rows);
+    judge(told.order.t, told.order.f, usable, rows, room)
 }
 
-pub fn join(o: Order, stamp: u32, l: usize, tray: &[u8], room: &mut [u8]) -> Joined
-    ensures { λ r. ⌜ JoinDone mod257 o stamp l (now (tray .entry)) (now (room .entry)) r (now (room .exit)) ⌝ }
+pub fn join(told: Told, stamp: u32, l: usize, tray: &[u8], room: &mut [u8]) -> Joined
+    ensures { λ r. ⌜ JoinDone mod257 told stamp l (now (tray .entry)) (now (room .entry)) r (now (room .exit)) ⌝ }
 {
-    let number = refusal(o, stamp, l, tray, room);
+    let number = refusal(told, stamp, l, tray, room);
     if number != 0 {
         return answer(number, 0, 0, 0, 0);
     }
     let mut rows = [0u16; 15232];
-    join_over(o, stamp, l, tray, &mut rows, room)
+    join_over(told, stamp, l, tray, &mut rows, room)
 }

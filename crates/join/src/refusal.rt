@@ -7,6 +7,7 @@ ghost use lib.ListN.{length};
 ghost use Rattle.join.specs.Join.{joinRefusal};
 use header::order::Order;
 use header::terms::terms_number;
+use header::told::Told;
 
 // Whether the tray and the room are as large as the order and the length ask.
 fn lent_right(o: Order, l: usize, tray: &[u8], room: &[u8]) -> bool
@@ -17,12 +18,16 @@ fn lent_right(o: Order, l: usize, tray: &[u8], room: &[u8]) -> bool
 }
 
 // The number of the first thing that forbids it: 1, 2, 3, 4; or 0 where nothing does.
-pub fn refusal(o: Order, stamp: u32, l: usize, tray: &[u8], room: &[u8]) -> u32
-    ensures { λ r. ⌜ r ≡ joinRefusal o stamp l (now (tray .entry)) (now (room .entry)) ⌝ }
+pub fn refusal(told: Told, stamp: u32, l: usize, tray: &[u8], room: &[u8]) -> u32
+    ensures { λ r. ⌜ r ≡ joinRefusal told stamp l (now (tray .entry)) (now (room .entry)) ⌝ }
 {
-    let told = terms_number(o, stamp, l);
-    if told != 0 {
-        return told;
+    let number = terms_number(told, stamp, l);
+    if number != 0 {
+        return number;
     }
-    if lent_right(o, l, tray, room) { 0 } else { 4 }
+    if lent_right(told.order, l, tray, room) {
+        0
+    } else {
+        4
+    }
 }

@@ -1,11 +1,12 @@
--- How long a line can be. The lines of a stamp, of sixteen keepers and of the counts come to 374 bytes at the most.
+-- How long a line can be. The lines of a key, of sixteen keepers and of the counts come to 389 bytes at the most.
 -- Assumes nothing.
-use Prim.Native.Nat.{ℕ, _^_, _<_, _≤_}
+use Prim.Native.Nat.{ℕ, _+_, _^_, _<_, _≤_}
+use Prim.Native.String.{String}
 use native.Mathlib.Omega.{arith}
 use lib.ListN.{length, length-append}
 use Rattle.lists.specs.Listed.{listed}
 use Rattle.lines.specs.DecimalLaws.{length-decimal}
-use Rattle.lines.specs.Lines.{stampLine, wordOf, keeperLine, countLine}
+use Rattle.lines.specs.Lines.{threeLine, keyLine, wordOf, keeperLine, countLine}
 use Rattle.lines.specs.Text.{text, decimal}
 use Rattle.lines.specs.declared.line.Standing.{Standing}
 use Rattle.lines.specs.declared.line.Standing.the-variants.{Absent, Present, Agrees, Differs}
@@ -13,9 +14,14 @@ use Rattle.lines.specs.declared.line.Standing.the-variants.{Absent, Pres
 wide : (n : ℕ) → n < 2 ^ 32 → length (decimal n) ≤ 10
 wide n h = length-decimal 9 n (omega arith)
 
-pub length-stamp-line : (stamp l : ℕ) → stamp < 2 ^ 32 → l < 2 ^ 32 → length (stampLine stamp l) ≤ 35
-unfolding stampLine text listed
-length-stamp-line stamp l hs hl = simp length-append (omega (arith, wide stamp hs, wide l hl))
+pub length-three-line : (a b c : String) (x y z : ℕ) → x < 2 ^ 32 → y < 2 ^ 32 → z < 2 ^ 32
+    → length (threeLine a x b y c z) ≤ length (text a) + length (text b) + length (text c) + length (text "\n") + 30
+unfolding threeLine
+length-three-line a b c x y z hx hy hz = simp length-append (omega (arith, wide x hx, wide y hy, wide z hz))
+
+pub length-key-line : (key stamp l : ℕ) → key < 2 ^ 32 → stamp < 2 ^ 32 → l < 2 ^ 32 → length (keyLine key stamp l) ≤ 50
+unfolding text listed
+length-key-line = length-three-line "key " " stamp " " length "
 
 length-word : (s : Standing) → length (text (wordOf s)) ≤ 7
 unfolding wordOf text listed
@@ -29,5 +35,5 @@ unfolding keeperLine text listed
 length-keeper-line x s h = simp length-append (omega (arith, length-decimal 1 x (omega arith), length-word s))
 
 pub length-count-line : (m need agree : ℕ) → m < 2 ^ 32 → need < 2 ^ 32 → agree < 2 ^ 32 → length (countLine m need agree) ≤ 51
-unfolding countLine text listed
-length-count-line m need agree hm hn ha = simp length-append (omega (arith, wide m hm, wide need hn, wide agree ha))
+unfolding text listed
+length-count-line = length-three-line "usable " " need " " agree "

@@ -2,7 +2,7 @@
 ghost use Prim.Native.Nat.{_+_, _≤_};
 ghost use mathlib.Core.List.{_++_};
 ghost use lib.ListN.{length};
-ghost use Rattle.lines.specs.Lines.{stampLine, wordOf, keeperLine, countLine, answerLine};
+ghost use Rattle.lines.specs.Lines.{keyLine, wordOf, keeperLine, countLine, answerLine};
 ghost use Rattle.lines.specs.Text.{decimal, text};
 ghost use Rattle.lines.specs.Written.{Written};
 use crate::text::put;
@@ -39,13 +39,31 @@ fn put_named(out: &mut [u8], at: usize, name: &[u8], n: u32) -> usize
     put_decimal(out, next, n)
 }
 
-pub fn put_stamp_line(out: &mut [u8], at: usize, stamp: u32, l: u32) -> usize
-    requires { ⌜ at + 64 ≤ length (now out) ⌝ }
-    ensures { λ r. ⌜ Written (now (out .entry)) at (stampLine stamp l) (now (out .exit)) r ⌝ }
+// Writes a line of three numbers, each after its name.
+fn put_three(
+    out: &mut [u8],
+    at: usize,
+    a: &[u8],
+    x: u32,
+    b: &[u8],
+    y: u32,
+    c: &[u8],
+    z: u32,
+) -> usize
+    requires { ⌜ at + length (now a) + length (now b) + length (now c) + 31 ≤ length (now out) ⌝ }
+    ensures { λ r. ⌜ Written (now (out .entry)) at ((now (a .entry) ++ decimal x) ++ ((now (b .entry) ++ decimal y) ++ ((now (c .entry) ++ decimal z) ++ text "\n"))) (now (out .exit)) r ⌝ }
 {
-    let named = put_named(out, at, b"stamp ", stamp);
-    let end = put_named(out, named, b" length ", l);
+    let one = put_named(out, at, a, x);
+    let two = put_named(out, one, b, y);
+    let end = put_named(out, two, c, z);
     put(out, end, b"\n")
+}
+
+pub fn put_key_line(out: &mut [u8], at: usize, key: u32, stamp: u32, l: u32) -> usize
+    requires { ⌜ at + 64 ≤ length (now out) ⌝ }
+    ensures { λ r. ⌜ Written (now (out .entry)) at (keyLine key stamp l) (now (out .exit)) r ⌝ }
+{
+    put_three(out, at, b"key ", key, b" stamp ", stamp, b" length ", l)
 }
 
 pub fn put_keeper_line(out: &mut [u8], at: usize, x: u32, s: Standing) -> usize
@@ -62,10 +80,7 @@ pub fn put_count_line(out: &mut [u8], at: usize, m: u32, need: u32, agree: u32) 
     requires { ⌜ at + 64 ≤ length (now out) ⌝ }
     ensures { λ r. ⌜ Written (now (out .entry)) at (countLine m need agree) (now (out .exit)) r ⌝ }
 {
-    let usable = put_named(out, at, b"usable ", m);
-    let needed = put_named(out, usable, b" need ", need);
-    let end = put_named(out, needed, b" agree ", agree);
-    put(out, end, b"\n")
+    put_three(out, at, b"usable ", m, b" need ", need, b" agree ", agree)
 }
 
 pub fn put_answer_line(out: &mut [u8], at: usize, number: u32) -> usize

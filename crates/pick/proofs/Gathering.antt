@@ -1,4 +1,4 @@
--- Gathering the keys of a tray, keeper after keeper.
+-- Gathering the ranks of a tray, keeper after keeper.
 -- Assumes nothing.
 use Prim.Native.Nat.{ℕ, _+_, _<_, _≤_}
 use mathlib.Core.Path.{_≡_, refl, ap, _∙_}
@@ -7,34 +7,34 @@ use native.Mathlib.Omega.{arith}
 use lib.ListN.{length, getD, set, length-set}
 use lib.Seq.{getD-set-same, getD-set-other}
 use borrow.Author.Count.{below-more}
-use Rattle.header.specs.declared.order.Order.{Order}
+use Rattle.header.specs.declared.told.Told.{Told}
 use Rattle.header.specs.Head.{headOf}
 use Rattle.format.specs.Reading.{blockWords}
 use Rattle.tray.specs.Tray.{slotOf}
-use Rattle.pick.specs.Keys.{keySaid, keyAt, KeysOf}
+use Rattle.pick.specs.Ranks.{rankSaid, rankAt, RanksOf}
 
--- the keys of the first k keepers are gathered
-pub record GatheredTo (order : Order) (tray keys₀ keys : List ℕ) (k : ℕ) : Type 0 where
-  pub reached : k ≤ order .n
-  pub size : length keys ≡ length keys₀
-  pub at : (j : ℕ) → j < k → getD keys j 0 ≡ keyAt order tray j
+-- the ranks of the first k keepers are gathered
+pub record GatheredTo (told : Told) (tray ranks₀ ranks : List ℕ) (k : ℕ) : Type 0 where
+  pub reached : k ≤ told .order .n
+  pub size : length ranks ≡ length ranks₀
+  pub at : (j : ℕ) → j < k → getD ranks j 0 ≡ rankAt told tray j
 
-module _ {order : Order} {tray keys₀ : List ℕ} where
-  pub gathered-none : GatheredTo order tray keys₀ keys₀ 0
+module _ {told : Told} {tray ranks₀ : List ℕ} where
+  pub gathered-none : GatheredTo told tray ranks₀ ranks₀ 0
   gathered-none = record { reached = omega arith; size = refl; at = λ j l. absurd (omega arith) }
 
-  module _ {keys : List ℕ} {k : ℕ} (before : GatheredTo order tray keys₀ keys k) where
-    pub gathered-all : order .n ≤ k → KeysOf order tray keys
+  module _ {ranks : List ℕ} {k : ℕ} (before : GatheredTo told tray ranks₀ ranks k) where
+    pub gathered-all : told .order .n ≤ k → RanksOf told tray ranks
     gathered-all past = record { at = λ j l. before .at j (omega arith) }
 
-    pub gathered-next : {slot : List ℕ} {key : ℕ} → k < order .n → order .n ≤ length keys₀ → slot ≡ slotOf tray (k + 1)
-        → key ≡ keySaid order (k + 1) (headOf (blockWords slot 0)) → GatheredTo order tray keys₀ (set keys k key) (k + 1)
-    unfolding keyAt
-    gathered-next {slot} {key} within room here read = record {
+    pub gathered-next : {slot : List ℕ} {rank : ℕ} → k < told .order .n → told .order .n ≤ length ranks₀ → slot ≡ slotOf tray (k + 1)
+        → rank ≡ rankSaid told (k + 1) (headOf (blockWords slot 0)) → GatheredTo told tray ranks₀ (set ranks k rank) (k + 1)
+    unfolding rankAt
+    gathered-next {slot} {rank} within room here read = record {
       reached = omega arith;
-      size = length-set keys k key ∙ before .size;
+      size = length-set ranks k rank ∙ before .size;
       at =
-          below-more (λ j. getD (set keys k key) j 0 ≡ keyAt order tray j) k
-          (λ j l. getD-set-other keys k j key 0 (λ e. omega arith) ∙ before .at j l)
-          (getD-set-same keys k key 0 (omega (arith, before .size)) ∙ (read ∙ ap (λ s. keySaid order (k + 1) (headOf (blockWords s 0))) here));
+          below-more (λ j. getD (set ranks k rank) j 0 ≡ rankAt told tray j) k
+          (λ j l. getD-set-other ranks k j rank 0 (λ e. omega arith) ∙ before .at j l)
+          (getD-set-same ranks k rank 0 (omega (arith, before .size)) ∙ (read ∙ ap (λ s. rankSaid told (k + 1) (headOf (blockWords s 0))) here));
     }

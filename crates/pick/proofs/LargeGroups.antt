@@ -1,4 +1,4 @@
--- The groups of a tray by the keys that its slots say: no group is larger than its key tells.
+-- The groups of a tray by the ranks that its slots say: no group is larger than its rank tells.
 -- Assumes nothing.
 use Prim.Native.Nat.{ℕ, _+_, _-_, _≤_, _<_}
 use mathlib.Core.Path.{_≡_, sym, ap, _∙_}
@@ -11,41 +11,41 @@ use lib.ListN.{getD}
 use borrow.Author.Tests.{eqb-true, eq-eqb}
 use Rattle.lists.specs.Count.{count-mono}
 use Rattle.lists.specs.From.{from, from-in}
-use Rattle.header.specs.declared.order.Order.{Order}
+use Rattle.header.specs.declared.told.Told.{Told}
 use Rattle.header.specs.TermsLaws.{TermsFacts}
 use Rattle.tray.specs.Tray.{usable, usableMany}
-use Rattle.pick.specs.Keys.{keyOf, stampIn, lengthIn, keyAt, sizeOf, KeysOf, NextOf}
+use Rattle.pick.specs.Ranks.{rankOf, stampIn, lengthIn, rankAt, sizeOf, RanksOf, NextOf}
 use Rattle.pick.specs.Passing.{some-passing}
 use Rattle.pick.specs.Pick.{Large}
-use Rattle.pick.proofs.Said.{usable-key, key-terms}
+use Rattle.pick.proofs.Said.{usable-rank, rank-terms}
 
-module _ {order : Order} {tray keys : List ℕ} (are : KeysOf order tray keys) where
-  group-most : (stamp l : ℕ) → usableMany order stamp l tray ≤ sizeOf keys (order .n) (keyOf stamp l)
+module _ {told : Told} {tray ranks : List ℕ} (are : RanksOf told tray ranks) where
+  group-most : (stamp l : ℕ) → usableMany told stamp l tray ≤ sizeOf ranks (told .order .n) (rankOf stamp l)
   unfolding sizeOf
   group-most stamp l =
-      count-mono (usable order stamp l tray) (λ x. eqb (getD keys (x - 1) 0) (keyOf stamp l)) (from 1 (order .n))
+      count-mono (usable told stamp l tray) (λ x. eqb (getD ranks (x - 1) 0) (rankOf stamp l)) (from 1 (told .order .n))
       (λ x m u.
-      let within = from-in 1 (order .n) x m in
+      let within = from-in 1 (told .order .n) x m in
       let keeper : x - 1 + 1 ≡ x = omega arith in
-      eq-eqb _ _ (are .at (x - 1) (omega arith) ∙ usable-key order tray (x - 1) stamp l (ap (usable order stamp l tray) keeper ∙ u)))
+      eq-eqb _ _ (are .at (x - 1) (omega arith) ∙ usable-rank told tray (x - 1) stamp l (ap (usable told stamp l tray) keeper ∙ u)))
 
-  module _ {bound best : ℕ} (next : NextOf keys (order .n) (order .t + order .f + 1) bound best) where
-    pub large-most : (stamp l : ℕ) → Large order tray stamp l → keyOf stamp l < bound → keyOf stamp l ≤ best
+  module _ {bound best : ℕ} (next : NextOf ranks (told .order .n) (told .order .t + told .order .f + 1) bound best) where
+    pub large-most : (stamp l : ℕ) → Large told tray stamp l → rankOf stamp l < bound → rankOf stamp l ≤ best
     large-most stamp l large below =
-        let one = some-passing (usable order stamp l tray) (order .n) (omega arith) in
-        let key = are .at (one .place) (one .within) ∙ usable-key order tray (one .place) stamp l (one .passes) in
-        rw key at (next .most (one .place) (one .within)) below (omega (arith, group-most stamp l))
+        let one = some-passing (usable told stamp l tray) (told .order .n) (omega arith) in
+        let rank = are .at (one .place) (one .within) ∙ usable-rank told tray (one .place) stamp l (one .passes) in
+        rw rank at (next .most (one .place) (one .within)) below (omega (arith, group-most stamp l))
 
-    -- the next key is of a lawful stamp and length
-    pub next-terms : 1 ≤ best → TermsFacts order (stampIn best) (lengthIn best)
+    -- the next rank is of a lawful stamp and length
+    pub next-terms : 1 ≤ best → TermsFacts told (stampIn best) (lengthIn best)
     unfolding sizeOf
     next-terms some =
-        let one = some-passing (λ x. eqb (getD keys (x - 1) 0) best) (order .n) (omega (arith, next .large some)) in
+        let one = some-passing (λ x. eqb (getD ranks (x - 1) 0) best) (told .order .n) (omega (arith, next .large some)) in
         let place = one .place in
-        let held : getD keys place 0 ≡ best = ap (λ i. getD keys i 0) (sym (add-sub-cancel place 1)) ∙ eqb-true _ _ (one .passes) in
-        let here : keyAt order tray place ≡ best = sym (are .at place (one .within)) ∙ held in
-        rw here at (key-terms order tray place (omega arith))
+        let held : getD ranks place 0 ≡ best = ap (λ i. getD ranks i 0) (sym (add-sub-cancel place 1)) ∙ eqb-true _ _ (one .passes) in
+        let here : rankAt told tray place ≡ best = sym (are .at place (one .within)) ∙ held in
+        rw here at (rank-terms told tray place (omega arith))
 
 -- and below every number that its bound is not above
-pub next-below : {keys : List ℕ} {n least bound best : ℕ} (top : ℕ) → bound ≤ top → 1 ≤ top → NextOf keys n least bound best → best < top
+pub next-below : {ranks : List ℕ} {n least bound best : ℕ} (top : ℕ) → bound ≤ top → 1 ≤ top → NextOf ranks n least bound best → best < top
 next-below {best = best} top most some next = ⊎-elim (λ (e : best ≡ 0). omega arith) (λ least. omega (arith, next .large least .0)) (eq-zero-or-pos best)

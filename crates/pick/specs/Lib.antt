@@ -1,7 +1,7 @@
 pub mod JoinGivesLaws
-pub mod Keys
 pub mod NumberLaws
 pub mod Passing
 pub mod Pick
 pub mod PickedLaws
+pub mod Ranks
 pub mod RefusalLaws

@@ -1,18 +1,18 @@
-// The groups that keys tell of: how large each is, and which comes next.
+// The groups that ranks tell of: how large each is, and which comes next.
 ghost use mathlib.Core.Path.{_≡_};
 ghost use Prim.Native.Nat.{_≤_};
 ghost use lib.ListN.{length};
-ghost use Rattle.pick.specs.Keys.{sizeOf, comesNext, NextOf};
+ghost use Rattle.pick.specs.Ranks.{sizeOf, comesNext, NextOf};
 
-// The size of a key's group: how many of the first n keys it is.
-fn group_size(keys: &[u64], n: usize, key: u64) -> usize
-    requires { ⌜ n ≤ length (now keys) ⌝ }
-    ensures { λ r. ⌜ r ≡ sizeOf (now (keys .entry)) n key ⌝ }
+// The size of a rank's group: how many of the first n ranks it is.
+fn group_size(ranks: &[u64], n: usize, rank: u64) -> usize
+    requires { ⌜ n ≤ length (now ranks) ⌝ }
+    ensures { λ r. ⌜ r ≡ sizeOf (now (ranks .entry)) n rank ⌝ }
 {
     let mut size = 0;
     let mut k = 0;
     while k < n {
-        if keys[k] == key {
+        if ranks[k] == rank {
             size += 1;
         }
         k += 1;
@@ -20,25 +20,25 @@ fn group_size(keys: &[u64], n: usize, key: u64) -> usize
     size
 }
 
-// Whether a key below a bound comes after another and its group is at least so large.
-fn comes_next(keys: &[u64], n: usize, least: usize, bound: u64, key: u64, best: u64) -> bool
-    requires { ⌜ n ≤ length (now keys) ⌝ }
-    ensures { λ r. ⌜ r ≡ comesNext (now (keys .entry)) n least bound key best ⌝ }
+// Whether a rank below a bound comes after another and its group is at least so large.
+fn comes_next(ranks: &[u64], n: usize, least: usize, bound: u64, rank: u64, best: u64) -> bool
+    requires { ⌜ n ≤ length (now ranks) ⌝ }
+    ensures { λ r. ⌜ r ≡ comesNext (now (ranks .entry)) n least bound rank best ⌝ }
 {
-    best < key && (key < bound && least <= group_size(keys, n, key))
+    best < rank && (rank < bound && least <= group_size(ranks, n, rank))
 }
 
-// The greatest of the first n keys below a bound whose group is at least so large; 0 where there is none.
-pub fn next_of(keys: &[u64], n: usize, least: usize, bound: u64) -> u64
-    requires { ⌜ n ≤ length (now keys) ⌝ }
-    ensures { λ r. ⌜ NextOf (now (keys .entry)) n least bound r ⌝ }
+// The greatest of the first n ranks below a bound whose group is at least so large; 0 where there is none.
+pub fn next_of(ranks: &[u64], n: usize, least: usize, bound: u64) -> u64
+    requires { ⌜ n ≤ length (now ranks) ⌝ }
+    ensures { λ r. ⌜ NextOf (now (ranks .entry)) n least bound r ⌝ }
 {
     let mut best = 0;
     let mut k = 0;
     while k < n {
-        let key = keys[k];
-        if comes_next(keys, n, least, bound, key, best) {
-            best = key;
+        let rank = ranks[k];
+        if comes_next(ranks, n, least, bound, rank, best) {
+            best = rank;
         }
         k += 1;
     }

@@ -5,15 +5,17 @@ use mathlib.Core.Path.{_≡_}
 use mathlib.Core.Bool.{Bool, true, false, cond, _||_}
 use mathlib.Core.List.{List, _++_}
 use lib.Count.{ones}
-use lib.Dec.{eqb}
+use lib.Dec.{eqb, ltb}
 use lib.ListN.{length, getD, drop, replicate}
 use Rattle.lists.specs.KeeperSet.{member}
 use Rattle.lists.specs.Pieces.{pieces}
 use Rattle.field.specs.Modulo.{mod257}
 use Rattle.lines.specs.declared.line.Standing.{Standing}
 use Rattle.lines.specs.declared.line.Standing.the-variants.{Absent, Present, Agrees, Differs}
-use Rattle.lines.specs.Lines.{stampLine, keeperLine, countLine, answerLine, wordOf}
+use Rattle.lines.specs.Lines.{keyLine, keeperLine, countLine, answerLine, wordOf}
 use Rattle.header.specs.declared.order.Order.{Order}
+use Rattle.header.specs.declared.told.Told.{Told}
+use Rattle.header.specs.Order.{lawfulOrder}
 use Rattle.tray.specs.Tray.{usable}
 use Rattle.pick.specs.declared.Picked.{Picked}
 use Rattle.pick.specs.Pick.{PickDone}
@@ -26,39 +28,47 @@ abbrev pub standing : ℕ → Bool → Bool → Standing
 standing number isUsable matches = cond isUsable (cond (eqb number 7) Present (cond matches Agrees Differs)) Absent
 
 -- a line for each keeper, 1..n
-abbrev pub keeperLines : Order → List ℕ → ℕ → ℕ → Joined → List ℕ
-keeperLines order tray stamp l result =
-    pieces (λ k. keeperLine (suc k) (wordOf (standing (result .number) (usable order stamp l tray (suc k)) (member (result .set) (suc k))))) (order .n)
+abbrev pub keeperLines : Told → List ℕ → ℕ → ℕ → Joined → List ℕ
+keeperLines told tray stamp l result =
+    pieces (λ k. keeperLine (suc k) (wordOf (standing (result .number) (usable told stamp l tray (suc k)) (member (result .set) (suc k))))) (told .order .n)
 
 -- the lines of what was joined; "The size of the agreement is the number of ones in that set."
-unfoldable pub lines : Order → List ℕ → ℕ → ℕ → Joined → List ℕ
-lines order tray stamp l result =
-    stampLine stamp l
-    ++ (keeperLines order tray stamp l result
+unfoldable pub lines : Told → List ℕ → ℕ → ℕ → Joined → List ℕ
+lines told tray stamp l result =
+    keyLine (told .key) stamp l
+    ++ (keeperLines told tray stamp l result
     ++ (countLine (result .usable) (result .need) (ones (result .set))
     ++ answerLine (result .number)))
 
 -- the numbers of the pick with which the lines of its group are written; "For any other number only the last line is written."
-abbrev pub told : ℕ → Bool
-told number = eqb number 0 || (eqb number 7 || eqb number 8)
+abbrev pub hasLines : ℕ → Bool
+hasLines number = eqb number 0 || (eqb number 7 || eqb number 8)
 
 -- "three bytes t, f, n"
 abbrev pub orderIn : List ℕ → Order
 orderIn input = record { t = getD input 0 0; f = getD input 1 0; n = getD input 2 0 }
 
+-- "The report reads the key as a fourth byte, after n"
+abbrev pub toldIn : List ℕ → Told
+toldIn input = record { order = orderIn input; key = getD input 3 0 }
+
 -- "then the tray"
 abbrev pub trayIn : List ℕ → List ℕ
-trayIn input = drop 3 input
+trayIn input = drop 4 input
 
--- what the report of an input is, and its number, which the last line has: fewer bytes than an order are answer 4; then the pick, and the join of the
+-- the number of an input of fewer than four bytes: 1 where three are there and are no lawful order, and else 4
+abbrev pub shortNumber : List ℕ → ℕ
+shortNumber input = cond (ltb (length input) 3 || lawfulOrder (orderIn input)) 4 1
+
+-- what the report of an input is, and its number, which the last line has: that of an input that is too short; then the pick, and the join of the
 -- group that it names
 pub data ReportOf (input : List ℕ) : ℕ → List ℕ → Type 0 where
-  short : length input < 3 → ReportOf input 4 (answerLine 4)
-  unpicked : (p : Picked) → 3 ≤ length input → PickDone mod257 (orderIn input) (trayIn input) p → told (p .number) ≡ false
+  short : length input < 4 → ReportOf input (shortNumber input) (answerLine (shortNumber input))
+  unpicked : (p : Picked) → 4 ≤ length input → PickDone mod257 (toldIn input) (trayIn input) p → hasLines (p .number) ≡ false
       → ReportOf input (p .number) (answerLine (p .number))
-  joined : (p : Picked) (result : Joined) (left : List ℕ) → 3 ≤ length input → PickDone mod257 (orderIn input) (trayIn input) p → told (p .number) ≡ true
-      → JoinDone mod257 (orderIn input) (p .stamp) (p .length) (trayIn input) (replicate (p .length) 0) result left
-      → ReportOf input (result .number) (lines (orderIn input) (trayIn input) (p .stamp) (p .length) result)
+  joined : (p : Picked) (result : Joined) (left : List ℕ) → 4 ≤ length input → PickDone mod257 (toldIn input) (trayIn input) p → hasLines (p .number) ≡ true
+      → JoinDone mod257 (toldIn input) (p .stamp) (p .length) (trayIn input) (replicate (p .length) 0) result left
+      → ReportOf input (result .number) (lines (toldIn input) (trayIn input) (p .stamp) (p .length) result)
 
 -- the report stands at the start of the space lent, the count of its bytes and its number are answered, and the rest of the space is as it was
 pub record Reported (input before : List ℕ) (answered : Answered) (after : List ℕ) : Type 0 where

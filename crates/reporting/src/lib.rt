@@ -1,4 +1,4 @@
-// The program `report`: an order and a tray on standard input, the report on standard output, its number as the status.
+// The program `report`: an order, a key and a tray on standard input, the report on standard output, its number as the status.
 ghost use mathlib.Core.Path.{_≡_};
 ghost use mathlib.Core.List.{List};
 ghost use Prim.Native.Nat.{ℕ, _≤_};
@@ -38,7 +38,7 @@ pub extern "C" fn report_run() -> i32
         return refuse_words();
     }
     // One byte more than the longest input, so that a longer one is seen to be too long.
-    let mut input = [0u8; 32772];
+    let mut input = [0u8; 32773];
     let given = taken(&mut input);
     write_report(&input[..given])
 }

@@ -71,7 +71,7 @@ pub fn refuse_words() -> i32
 {
     io::write_all(
         libc::STDERR_FILENO,
-        b"usage: report <INPUT, where INPUT is three bytes t, f, n and then the tray.\n",
+        b"usage: report <INPUT, where INPUT is four bytes t, f, n, key and then the tray.\n",
     );
     io::write_all(
         libc::STDERR_FILENO,

@@ -6,7 +6,7 @@ use mathlib.Core.List.{List}
 use lib.ListN.{getD, take, drop}
 use Rattle.lists.specs.Count.{count}
 use Rattle.lists.specs.From.{from}
-use Rattle.header.specs.declared.order.Order.{Order}
+use Rattle.header.specs.declared.told.Told.{Told}
 use Rattle.header.specs.declared.head.Head.{Head}
 use Rattle.header.specs.Head.{sameHead}
 use Rattle.format.specs.declared.reader.Reading.{Reading}
@@ -18,21 +18,22 @@ unfoldable pub slotOf : List ℕ → ℕ → List ℕ
 slotOf tray x = take 2048 (drop (2048 * (x - 1)) tray)
 
 -- the head that keeper x's letter has
-abbrev pub headFor : Order → ℕ → ℕ → ℕ → Head
-headFor order stamp l x = record { order = order; keeper = x; stamp = stamp; length = l }
+abbrev pub headFor : Told → ℕ → ℕ → ℕ → Head
+headFor told stamp l x = record { told = told; keeper = x; stamp = stamp; length = l }
 
 -- good, with just this head
 abbrev pub readsAs : Reading → Head → Bool
-readsAs (Good h) told = sameHead h told
-readsAs (Bad number place) told = false
+readsAs (Good h) asked = sameHead h asked
+readsAs (Bad number place) asked = false
 
--- "A slot is usable if its letter reads as good and has this order, stamp and length and this slot's keeper number."
-unfoldable pub usable : Order → ℕ → ℕ → List ℕ → ℕ → Bool
-usable order stamp l tray x = readsAs (readOf (slotOf tray x)) (headFor order stamp l x)
+-- "A slot is usable if its letter reads as good and has this order, stamp and length and this slot's keeper number." Of the key: "a usable letter
+-- must carry it"
+unfoldable pub usable : Told → ℕ → ℕ → List ℕ → ℕ → Bool
+usable told stamp l tray x = readsAs (readOf (slotOf tray x)) (headFor told stamp l x)
 
 -- "With m usable": how many slots are
-abbrev pub usableMany : Order → ℕ → ℕ → List ℕ → ℕ
-usableMany order stamp l tray = count (usable order stamp l tray) (from 1 (order .n))
+abbrev pub usableMany : Told → ℕ → ℕ → List ℕ → ℕ
+usableMany told stamp l tray = count (usable told stamp l tray) (from 1 (told .order .n))
 
 -- word i of keeper x's letter of l
 unfoldable pub wordOf : List ℕ → ℕ → ℕ → ℕ → ℕ

@@ -9,7 +9,7 @@ use format::reader::read;
 use format::reader::take_shares;
 use header::head;
 use header::head::Head;
-use header::order::Order;
+use header::told::Told;
 
 // The slot of keeper x.
 pub fn slot_of(tray: &[u8], x: usize) -> &[u8]
@@ -21,11 +21,11 @@ pub fn slot_of(tray: &[u8], x: usize) -> &[u8]
 }
 
 // The head that keeper x's letter has.
-pub fn head_for(o: Order, stamp: u32, l: usize, x: usize) -> Head
-    ensures { λ r. ⌜ r ≡ headFor o stamp l x ⌝ }
+pub fn head_for(told: Told, stamp: u32, l: usize, x: usize) -> Head
+    ensures { λ r. ⌜ r ≡ headFor told stamp l x ⌝ }
 {
     Head {
-        order: o,
+        told,
         keeper: x,
         stamp,
         length: l,
@@ -33,11 +33,11 @@ pub fn head_for(o: Order, stamp: u32, l: usize, x: usize) -> Head
 }
 
 // The usable keepers of a tray, as a set; their share words go into the rows, 952 words for each keeper.
-pub fn scan(o: Order, stamp: u32, l: usize, tray: &[u8], rows: &mut [u16]) -> u16
-    requires { ⌜ Scannable o l (now tray) (now rows) ⌝ }
-    ensures { λ r. ⌜ Scanned o stamp l (now (tray .entry)) r (now (rows .exit)) ⌝ }
+pub fn scan(told: Told, stamp: u32, l: usize, tray: &[u8], rows: &mut [u16]) -> u16
+    requires { ⌜ Scannable told l (now tray) (now rows) ⌝ }
+    ensures { λ r. ⌜ Scanned told stamp l (now (tray .entry)) r (now (rows .exit)) ⌝ }
 {
-    let n = o.n;
+    let n = told.order.n;
     let mut set: u16 = 0;
     let mut k = 0;
     while k < n {
@@ -46,7 +46,7 @@ pub fn scan(o: Order, stamp: u32, l: usize, tray: &[u8], rows: &mut [u16]) -> u1
             k += 1;
             continue;
         };
-        if head::same(h, head_for(o, stamp, l, k + 1)) {
+        if head::same(h, head_for(told, stamp, l, k + 1)) {
             let row = 952 * k;
             take_shares(slot, &mut rows[row..row + l]);
             set = set + (1 << k);

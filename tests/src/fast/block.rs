@@ -2,6 +2,7 @@
 
 use crate::block::{BLOCK, WORDS};
 use crate::letter::{Head, SHARES};
+use crate::told::Told;
 
 const P: u32 = 257;
 
@@ -21,11 +22,12 @@ pub type Words = [u16; WORDS];
 
 /// The first words of the block at this place.
 pub fn header(head: Head, place: usize) -> [u16; SHARES] {
+    let Told { order, key } = head.told;
     let [a, b, c, d] = head.stamp.to_be_bytes().map(u16::from);
-    let [t, f, n] = [head.order.t, head.order.f, head.order.n].map(|number| number as u16);
+    let [t, f, n, keeper, key] =
+        [order.t, order.f, order.n, head.keeper, key].map(|number| number as u16);
     let length = head.length as u16;
-    let keeper = head.keeper as u16;
-    [81, 1, t, f, n, keeper, a, b, c, d, length >> 8, length & 255, place as u16, 0, 0, 0]
+    [81, 1, t, f, n, keeper, a, b, c, d, length >> 8, length & 255, place as u16, key, 0, 0]
 }
 
 /// Even words of 65535 stay below 2^32: the weighted sum is right before a word is known to be small.

@@ -4,11 +4,12 @@ use super::block::{header, write, Words};
 use super::{Row, ROW};
 use crate::block::{BLOCK, WORDS};
 use crate::letter::{Head, SHARES, SHARES_IN_BLOCK};
-use crate::order::{lawful_length, Order, SLOT};
+use crate::order::{lawful_length, SLOT};
+use crate::told::Told;
 
-pub fn cut(order: Order, stamp: u32, secret: &[u8], random: &[u16], tray: &mut [u8]) -> u32 {
+pub fn cut(told: Told, stamp: u32, secret: &[u8], random: &[u16], tray: &mut [u8]) -> u32 {
     let length = secret.len();
-    if !order.lawful() {
+    if !told.lawful() {
         return 1;
     }
     if !lawful_length(length) {
@@ -17,8 +18,8 @@ pub fn cut(order: Order, stamp: u32, secret: &[u8], random: &[u16], tray: &mut [
     if stamp == 0 {
         return 3;
     }
-    let t = order.t as usize;
-    if random.len() != length * t || tray.len() != order.tray() {
+    let t = told.order.t as usize;
+    if random.len() != length * t || tray.len() != told.order.tray() {
         return 4;
     }
     if random.iter().fold(0, |largest, &word| largest.max(word)) > 256 {
@@ -36,7 +37,7 @@ pub fn cut(order: Order, stamp: u32, secret: &[u8], random: &[u16], tray: &mut [
     }
     for (slot, keeper) in tray.chunks_exact_mut(SLOT).zip(1..) {
         let shares = values(rows, keeper, length);
-        let head = Head { order, keeper: keeper.into(), stamp, length: length as u32 };
+        let head = Head { told, keeper: keeper.into(), stamp, length: length as u32 };
         write_letter(head, &shares[..length], slot);
     }
     0

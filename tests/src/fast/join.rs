@@ -9,15 +9,16 @@ use crate::block::BLOCK;
 use crate::field::{multiply, reciprocal, subtract};
 use crate::join::Joined;
 use crate::letter::{Head, SHARES, SHARES_IN_BLOCK};
-use crate::order::{lawful_length, Order, SLOT};
+use crate::order::{lawful_length, SLOT};
+use crate::told::Told;
 
 /// A row for each keeper, at its number.
 type Rows = [Row; 17];
 
-pub fn join(order: Order, stamp: u32, length: u32, tray: &[u8], room: &mut [u8]) -> Joined {
+pub fn join(told: Told, stamp: u32, length: u32, tray: &[u8], room: &mut [u8]) -> Joined {
     let refused = |number| Joined { number, ..Joined::default() };
-    let size = length as usize;
-    if !order.lawful() {
+    let (order, size) = (told.order, length as usize);
+    if !told.lawful() {
         return refused(1);
     }
     if !lawful_length(size) {
@@ -30,7 +31,7 @@ pub fn join(order: Order, stamp: u32, length: u32, tray: &[u8], room: &mut [u8])
         return refused(4);
     }
     let mut rows = [[0; ROW]; 17];
-    let usable = scan(order, stamp, length, tray, &mut rows);
+    let usable = scan(told, stamp, length, tray, &mut rows);
     let m = usable.all().len() as u32;
     let need = m.saturating_sub(order.f).max(order.fewest());
     let answer = |number, set, trials| Joined { number, usable: m, need, set, trials };
@@ -53,10 +54,10 @@ pub fn join(order: Order, stamp: u32, length: u32, tray: &[u8], room: &mut [u8])
 }
 
 /// The keepers whose letters can be used; their share words go to their rows.
-fn scan(order: Order, stamp: u32, length: u32, tray: &[u8], rows: &mut Rows) -> Keepers {
+fn scan(told: Told, stamp: u32, length: u32, tray: &[u8], rows: &mut Rows) -> Keepers {
     let mut usable = Keepers::none();
     for (slot, keeper) in tray.chunks_exact(SLOT).zip(1..) {
-        let head = Head { order, keeper, stamp, length };
+        let head = Head { told, keeper, stamp, length };
         if read_letter(head, slot, &mut rows[keeper as usize]) {
             usable.push(keeper as u16);
         }

@@ -42,7 +42,7 @@ returns-3 c =
     let a = c .before .before .before .before .before .before .args in
     let letter = now (a .letter) in
     let read : readOf letter ≡ Bad (c .before .number .given .0 .0) (c .before .number .given .0 .1 .0) = cc in
-    let number = offered-bad (a .o) (a .keeper) (now (a .held)) letter _ _ (rw read at (fault-facts letter)) in
+    let number = offered-bad (a .told) (a .keeper) (now (a .held)) letter _ _ (rw read at (fault-facts letter)) in
     rw read (sym number, refl)
 
 pub judge-letter-spec : {M : Type 1} → statement M

@@ -14,8 +14,8 @@ judge-requires c κs = search needs
 copy-requires : tie.Need-copy-requires
 copy-requires c κs =
     let args = c .before .before .before .before .before .before .before .args in
-    let told = c .before .before .before .judge .ensures in
-    taken-size (args .o) (args .keeper) (now (args .held)) (now (args .letter)) (rw (← told .0) (c .before .if1 .taken))
+    let judged = c .before .before .before .judge .ensures in
+    taken-size (args .told) (args .keeper) (now (args .held)) (now (args .letter)) (rw (← judged .0) (c .before .if1 .taken))
 
 same-length : tie.Need-same-length
 same-length c = search needs
@@ -23,9 +23,9 @@ same-length c = search needs
 returns : tie.Need-returns
 unfolding storeLeaves
 returns c =
-    let told = c .before .before .before .before .before .before .judge .ensures in
+    let judged = c .before .before .before .before .before .before .judge .ensures in
     let zero = c .before .before .before .before .if1 .taken in
-    record { number = told .0; place = told .1; leaves = rw (← told .0, eq-eqb _ 0 zero) (c .before .before .copy .ensures) }
+    record { number = judged .0; place = judged .1; leaves = rw (← judged .0, eq-eqb _ 0 zero) (c .before .before .copy .ensures) }
 
 same-length-2 : tie.Need-same-length-2
 same-length-2 c = search needs
@@ -33,8 +33,8 @@ same-length-2 c = search needs
 returns-2 : tie.Need-returns-2
 unfolding storeLeaves
 returns-2 c =
-    let told = c .before .before .judge .ensures in
-    record { number = told .0; place = told .1; leaves = rw (← told .0, ne-eqb _ 0 (c .if1 .left)) }
+    let judged = c .before .before .judge .ensures in
+    record { number = judged .0; place = judged .1; leaves = rw (← judged .0, ne-eqb _ 0 (c .if1 .left)) }
 
 pub store-spec : {M : Type 1} → statement M
 store-spec =

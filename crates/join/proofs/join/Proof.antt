@@ -22,7 +22,7 @@ returns c =
     let refused = c .before in
     let a = refused .before .before .before .before .before .args in
     rw (c .answer .ensures)
-    (refused-done (a .o) (a .stamp) (a .l) (a .tray .now) (a .room .now) mod257 (refused .before .refusal .result) (refused .before .refusal .ensures) (refused .if1 .taken))
+    (refused-done (a .told) (a .stamp) (a .l) (a .tray .now) (a .room .now) mod257 (refused .before .refusal .result) (refused .before .refusal .ensures) (refused .if1 .taken))
 
 slice-aggregate-join-over : tie.Need-slice-aggregate-join-over
 slice-aggregate-join-over c = search needs

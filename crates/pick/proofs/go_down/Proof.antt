@@ -1,4 +1,4 @@
--- `pick::go_down` meets its contract, key by key. The measure is the key.
+-- `pick::go_down` meets its contract, rank by rank. The measure is the rank.
 -- Assumes nothing.
 use Prim.Native.Nat.{_≤_, _<_}
 use mathlib.Core.Path.{sym, _∙_}
@@ -16,13 +16,13 @@ use Rattle.pick.proofs.go_down.Statement.{statement}
 use Rattle.pick.proofs.go_down.Tie as tie
 
 abbrev Inv-loop : tie.InvT-loop
-Inv-loop o tray keys rows₀ least number₀ top₀ key₀ rows number top key = Passed mod257 o tray key number top × Rows rows
+Inv-loop told tray ranks rows₀ least number₀ top₀ rank₀ rows number top rank = Passed mod257 told tray rank number top × Rows rows
 
 abbrev μ-loop : tie.MeasureT-loop
-μ-loop o tray keys rows₀ least number₀ top₀ key₀ rows number top key = key
+μ-loop told tray ranks rows₀ least number₀ top₀ rank₀ rows number top rank = rank
 
--- a key that is not 0
-some : (c : tie.In-loop Inv-loop μ-loop) → 1 ≤ c .before .loop .key
+-- a rank that is not 0
+some : (c : tie.In-loop Inv-loop μ-loop) → 1 ≤ c .before .loop .rank
 some c = omega (arith, c .loop-test .taken)
 
 -- where it began
@@ -77,7 +77,7 @@ next-of-requires-2 c κs = search needs
 loop-less : tie.Need-loop-less Inv-loop μ-loop
 loop-less c =
     let turn = c .before .before .before .before .before .before .before .before in
-    next-below (turn .before .loop .key) (omega arith) (some turn) (c .next-of2 .ensures)
+    next-below (turn .before .loop .rank) (omega arith) (some turn) (c .next-of2 .ensures)
 
 loop-again : tie.Need-loop-again Inv-loop μ-loop
 loop-again c =
@@ -86,7 +86,7 @@ loop-again c =
     let tried = fails .before .before .before in
     let turn = tried .before .before in
     let start = start-of turn in
-    let apart : start .args .o .n < 257 = omega (arith, pick-facts _ _ (start .pre .0)) in
+    let apart : start .args .told .order .n < 257 = omega (arith, pick-facts _ _ (start .pre .0)) in
     let more =
     passed-more (start .pre .1 .0) (start .pre .0) (turn .before .loop .inv .0) (some turn) mod257-field apart (tried .joined .ensures .0) (fails .if1 .left)
     (c .next-of2 .ensures) in (

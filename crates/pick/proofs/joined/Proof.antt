@@ -4,7 +4,7 @@ use mathlib.Core.Path.{refl}
 use borrow.Author.Needs.{needs}
 use Rattle.join.specs.Room.{take-zeros, length-front}
 use Rattle.pick.specs.JoinGivesLaws.{accepted}
-use Rattle.pick.specs.Keys.{lengthIn}
+use Rattle.pick.specs.Ranks.{lengthIn}
 use Rattle.pick.proofs.joined.Statement.{statement}
 use Rattle.pick.proofs.joined.Tie as tie
 
@@ -15,13 +15,13 @@ array-borrow-prefix-room : tie.Need-array-borrow-prefix-room
 array-borrow-prefix-room c = search needs
 
 slice-aggregate-join-over : tie.Need-slice-aggregate-join-over
-slice-aggregate-join-over c = let start = c .before .before .before .before in length-front (lengthIn (start .args .key)) 952 (start .pre .0 .terms .length-most)
+slice-aggregate-join-over c = let start = c .before .before .before .before in length-front (lengthIn (start .args .rank)) 952 (start .pre .0 .terms .length-most)
 
 join-over-requires : tie.Need-join-over-requires
 join-over-requires c κs =
     let start = c .before .before .before .before in
     let asked = start .pre .0 in
-    (rw (take-zeros (lengthIn (start .args .key)) 952 (asked .terms .length-most)) (accepted _ _ _ _ (asked .terms) (asked .slots)), start .pre .1)
+    (rw (take-zeros (lengthIn (start .args .rank)) 952 (asked .terms .length-most)) (accepted _ _ _ _ (asked .terms) (asked .slots)), start .pre .1)
 
 same-length : tie.Need-same-length
 same-length c = search needs
@@ -33,7 +33,7 @@ returns c =
       record {
         result = join .join-over .result;
         left = join .join-over .last .1 .1 .1 .1 .1 .0;
-        done = rw (take-zeros (lengthIn (start .args .key)) 952 (start .pre .0 .terms .length-most)) at (join .join-over .ensures .0);
+        done = rw (take-zeros (lengthIn (start .args .rank)) 952 (start .pre .0 .terms .length-most)) at (join .join-over .ensures .0);
         numbered = refl;
       },
       join .join-over .ensures .1,

@@ -1,4 +1,4 @@
--- `pick::pick` meets its contract: a refusal, or what is found going down the keys that the slots say.
+-- `pick::pick` meets its contract: a refusal, or what is found going down the ranks that the slots say.
 -- Assumes nothing.
 use mathlib.Core.Path.{_≡_, refl, sym, _∙_}
 use native.Mathlib.Omega.{arith}
@@ -11,7 +11,7 @@ use Rattle.pick.proofs.pick.Statement.{statement}
 use Rattle.pick.proofs.pick.Tie as tie
 
 -- past the first test the pick is not refused
-allowed : (c : tie.Else1) → pickRefusal (c .before .before .before .args .o) (now (c .before .before .before .args .tray)) ≡ 0
+allowed : (c : tie.Else1) → pickRefusal (c .before .before .before .args .told) (now (c .before .before .before .args .tray)) ≡ 0
 allowed c = sym (c .before .refusal .ensures) ∙ c .if1 .left
 
 refusal-requires : tie.Need-refusal-requires
@@ -21,7 +21,7 @@ answer-requires : tie.Need-answer-requires
 answer-requires c κs = search needs
 
 returns : tie.Need-returns
-returns c = let told = c .before in rw (c .answer .ensures, told .before .refusal .ensures) (refused (λ e. told .if1 .taken (told .before .refusal .ensures ∙ e)))
+returns c = let then = c .before in rw (c .answer .ensures, then .before .refusal .ensures) (refused (λ e. then .if1 .taken (then .before .refusal .ensures ∙ e)))
 
 slice-aggregate-gather : tie.Need-slice-aggregate-gather
 slice-aggregate-gather c = search needs

@@ -4,7 +4,7 @@ use mathlib.Core.Path.{sym, _∙_}
 use native.Mathlib.Omega.{arith}
 use borrow.Author.Needs.{needs}
 use borrow.Author.Tests.{eq-eqb, ne-eqb}
-use Rattle.header.specs.OrderLaws.{lawful-order-facts}
+use Rattle.header.specs.ToldLaws.{lawful-told-facts}
 use Rattle.pick.specs.Pick.{pickRefusal}
 use Rattle.pick.proofs.refusal.Statement.{statement}
 use Rattle.pick.proofs.refusal.Tie as tie
@@ -13,7 +13,7 @@ lawful-requires : tie.Need-lawful-requires
 lawful-requires c κs = search needs
 
 mul-if2 : tie.Need-mul-if2
-mul-if2 c = omega (arith, lawful-order-facts _ (sym (c .before .before .lawful .ensures) ∙ c .before .if1 .taken))
+mul-if2 c = omega (arith, lawful-told-facts _ (sym (c .before .before .lawful .ensures) ∙ c .before .if1 .taken))
 
 returns : tie.Need-returns
 unfolding pickRefusal

@@ -1,37 +1,34 @@
--- `report_text::report` meets its contract: the first three bytes are the order.
+-- `report_text::report` meets its contract: the first bytes are the order and the key, where they are there.
 -- Assumes nothing.
 use native.Mathlib.Omega.{arith}
+use lib.ListN.{getD}
 use borrow.Author.Needs.{needs}
 use Rattle.report_text.proofs.Reporting.{short-reported}
 use Rattle.report_text.proofs.report.Statement.{statement}
 use Rattle.report_text.proofs.report.Tie as tie
 
+short-number-requires : tie.Need-short-number-requires
+short-number-requires c κs = search needs
+
 answer-alone-requires : tie.Need-answer-alone-requires
 answer-alone-requires c κs = search needs
 
 returns : tie.Need-returns
-returns c = short-reported (c .before .before .if1 .taken) (c .answer-alone .ensures)
+returns c = short-reported (c .before .before .before .if1 .taken) (rw (c .before .short-number .ensures) at (c .answer-alone .ensures))
 
-shared-slice-read-t9 : tie.Need-shared-slice-read-t9
-shared-slice-read-t9 c = search needs
-
-cast-t4 : tie.Need-cast-t4
-cast-t4 c = omega (arith, c .shared-slice-known2 .given 0)
+order-in-requires : tie.Need-order-in-requires
+order-in-requires c κs = search needs
 
 shared-slice-read-t11 : tie.Need-shared-slice-read-t11
 shared-slice-read-t11 c = search needs
 
-cast-t12 : tie.Need-cast-t12
-cast-t12 c = omega (arith, c .shared-slice-known3 .given 1)
-
-shared-slice-read-t14 : tie.Need-shared-slice-read-t14
-shared-slice-read-t14 c = search needs
-
-cast-t15 : tie.Need-cast-t15
-cast-t15 c = omega (arith, c .shared-slice-known4 .given 2)
+cast-t5 : tie.Need-cast-t5
+cast-t5 c = omega (arith, c .shared-slice-known2 .given 3)
 
 report-picked-requires : tie.Need-report-picked-requires
-report-picked-requires c κs = search needs
+report-picked-requires c κs =
+    let input = c .before .before .before .before .before .args .input .now in
+    (omega arith, (λ i. record { order = c .before .before .order-in .ensures i; key = getD input 3 0 }, search needs))
 
 returns-2 : tie.Need-returns-2
 returns-2 c = c .report-picked .ensures
@@ -40,13 +37,11 @@ pub report-spec : {M : Type 1} → statement M
 report-spec =
     tie.close
     (tie.spec
+    short-number-requires
     answer-alone-requires
     returns
-    shared-slice-read-t9
-    cast-t4
+    order-in-requires
     shared-slice-read-t11
-    cast-t12
-    shared-slice-read-t14
-    cast-t15
+    cast-t5
     report-picked-requires
     returns-2)

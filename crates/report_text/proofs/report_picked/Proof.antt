@@ -7,7 +7,7 @@ use native.Mathlib.Omega.{arith}
 use lib.ListN.{length, take, drop}
 use borrow.Author.Needs.{needs}
 use Rattle.report_text.specs.PickedLaws.{picked-joinable}
-use Rattle.report_text.specs.Report.{told}
+use Rattle.report_text.specs.Report.{hasLines}
 use Rattle.report_text.proofs.Reporting.{PickedOf, unpicked-reported, joined-reported, all-of}
 use Rattle.report_text.proofs.report_picked.Statement.{statement}
 use Rattle.report_text.proofs.report_picked.Tie as tie
@@ -24,21 +24,21 @@ part-tray-end c = search needs
 pick-requires : tie.Need-pick-requires
 pick-requires c κs = search needs
 
-is-told-requires : tie.Need-is-told-requires
-is-told-requires c κs = search needs
+has-lines-requires : tie.Need-has-lines-requires
+has-lines-requires c κs = search needs
 
--- the tray is all of the input that follows the order
-of-input : (c : tie.After-pick) → (let a = c .before .before .before .before .args in PickedOf (a .input .now) (a .o) (take (length (a .input .now) - 3) (drop 3 (a .input .now))) (c .pick .result))
+-- the tray is all of the input that follows the order and the key
+of-input : (c : tie.After-pick) → (let a = c .before .before .before .before .args in PickedOf (a .input .now) (a .told) (take (length (a .input .now) - 4) (drop 4 (a .input .now))) (c .pick .result))
 of-input c =
     let a = c .before .before .before .before in
-    record { whole = a .pre .0; of = a .pre .1 .0; in-it = all-of (a .args .input .now) 3; pick = c .pick .ensures }
+    record { whole = a .pre .0; of = a .pre .1 .0; in-it = all-of (a .args .input .now) 4; pick = c .pick .ensures }
 
 -- the lines are written with this number
-told-so : (c : tie.Then1) → told (c .before .before .pick .result .number) ≡ true
-told-so c = sym (c .before .is-told .ensures) ∙ c .if1 .taken
+lines-so : (c : tie.Then1) → hasLines (c .before .before .pick .result .number) ≡ true
+lines-so c = sym (c .before .has-lines .ensures) ∙ c .if1 .taken
 
 report-joined-requires : tie.Need-report-joined-requires
-report-joined-requires c κs = (picked-joinable (c .before .before .before .pick .ensures) (told-so (c .before)), omega arith)
+report-joined-requires c κs = (picked-joinable (c .before .before .before .pick .ensures) (lines-so (c .before)), omega arith)
 
 same-length : tie.Need-same-length
 same-length c = search needs
@@ -47,7 +47,7 @@ returns : tie.Need-returns
 returns c =
     let join = c .before .before in
     let way = join .before .before in
-    joined-reported (of-input (way .before .before)) (told-so way) (join .report-joined .ensures)
+    joined-reported (of-input (way .before .before)) (lines-so way) (join .report-joined .ensures)
 
 answer-alone-requires : tie.Need-answer-alone-requires
 answer-alone-requires c κs = search needs
@@ -59,7 +59,7 @@ returns-2 : tie.Need-returns-2
 returns-2 c =
     let line = c .before .before in
     let way = line .before .before in
-    unpicked-reported (of-input (way .before .before)) (sym (way .before .is-told .ensures) ∙ way .if1 .left) (line .answer-alone .ensures)
+    unpicked-reported (of-input (way .before .before)) (sym (way .before .has-lines .ensures) ∙ way .if1 .left) (line .answer-alone .ensures)
 
 pub report-picked-spec : {M : Type 1} → statement M
 report-picked-spec =
@@ -69,7 +69,7 @@ report-picked-spec =
     part-tray-start
     part-tray-end
     pick-requires
-    is-told-requires
+    has-lines-requires
     report-joined-requires
     same-length
     returns

@@ -13,10 +13,10 @@ use Rattle.tray.proofs.scan.Statement.{statement}
 use Rattle.tray.proofs.scan.Tie as tie
 
 abbrev Inv-loop : tie.InvT-loop
-Inv-loop o stamp l tray rows₀ n set₀ k₀ rows set k = ScannedTo o stamp l tray set rows k
+Inv-loop told stamp l tray rows₀ n set₀ k₀ rows set k = ScannedTo told stamp l tray set rows k
 
 abbrev μ-loop : tie.MeasureT-loop
-μ-loop o stamp l tray rows₀ n set₀ k₀ rows set k = n - k
+μ-loop told stamp l tray rows₀ n set₀ k₀ rows set k = n - k
 
 loop-holds : tie.Need-loop-holds Inv-loop μ-loop
 loop-holds c = scanned-none (c .before .before .pre)
@@ -46,8 +46,8 @@ loop-again : tie.Need-loop-again Inv-loop μ-loop
 loop-again c =
     let slot = c .before .before .before in
     let turn = slot .before in
-    let told = c .enum-told .given in
-    let read = ap readOf (sym (slot .slot-of .ensures)) ∙ (sym (c .before .before .read .ensures) ∙ told .1) in
+    let read-bad = c .enum-told .given in
+    let read = ap readOf (sym (slot .slot-of .ensures)) ∙ (sym (c .before .before .read .ensures) ∙ read-bad .1) in
     let start = turn .before .before .before .before in
     scanned-skipped (start .pre) (turn .before .loop .inv) (turn .loop-test .taken) (usable-as _ _ _ _ _ _ read)
 

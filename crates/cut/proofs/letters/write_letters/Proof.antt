@@ -14,11 +14,11 @@ use Rattle.cut.proofs.letters.write_letters.Statement.{statement}
 use Rattle.cut.proofs.letters.write_letters.Tie as tie
 
 abbrev Inv-loop : tie.InvT-loop
-Inv-loop o stamp columns row₀ tray₀ n k₀ row tray k =
-    (k ≤ n) × (length row ≡ length row₀) × Laying 2048 (λ i. letterFrom mod257 o stamp columns (length row₀) (suc i)) (2048 * n) k tray
+Inv-loop told stamp columns row₀ tray₀ n k₀ row tray k =
+    (k ≤ n) × (length row ≡ length row₀) × Laying 2048 (λ i. letterFrom mod257 told stamp columns (length row₀) (suc i)) (2048 * n) k tray
 
 abbrev μ-loop : tie.MeasureT-loop
-μ-loop o stamp columns row₀ tray₀ n k₀ row tray k = n - k
+μ-loop told stamp columns row₀ tray₀ n k₀ row tray k = n - k
 
 abbrev start : tie.At-loop Inv-loop μ-loop → tie.Start Inv-loop μ-loop
 start c = c .before .before .before .before
@@ -86,8 +86,8 @@ same-length-2 c = c .before .loop .inv .2 .size ∙ sym (start (c .before) .pre 
 
 returns : tie.Need-returns Inv-loop μ-loop
 returns c =
-    let all : c .before .loop .k ≡ start (c .before) .args .o .n = omega arith in
-    laying-done _ _ _ (c .before .loop .tray) (start (c .before) .args .o .n) (rw all at (c .before .loop .inv .2)) refl
+    let all : c .before .loop .k ≡ start (c .before) .args .told .order .n = omega arith in
+    laying-done _ _ _ (c .before .loop .tray) (start (c .before) .args .told .order .n) (rw all at (c .before .loop .inv .2)) refl
 
 pub write-letters-spec : {M : Type 1} → statement M
 write-letters-spec =

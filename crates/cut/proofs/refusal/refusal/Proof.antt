@@ -13,7 +13,7 @@ use Rattle.cut.specs.Cut.{cutNumber}
 use Rattle.cut.proofs.refusal.refusal.Statement.{statement}
 use Rattle.cut.proofs.refusal.refusal.Tie as tie
 
-told-right : (c : tie.Else1) → let a = c .before .before .before .before .before .args in termsNumber (a .o) (a .stamp) (length (a .secret .now)) ≡ 0
+told-right : (c : tie.Else1) → let a = c .before .before .before .before .before .args in termsNumber (a .told) (a .stamp) (length (a .secret .now)) ≡ 0
 told-right c = sym (c .before .terms-number .ensures) ∙ c .if1 .left
 
 bytes : (c : tie.After-shared-slice-known) → Below 256 (c .before .args .secret .now)
@@ -29,7 +29,7 @@ returns c = rw (← c .before .terms-number .ensures) (sym (first-wrong _ _ (c .
 lent-right-requires : tie.Need-lent-right-requires
 lent-right-requires c κs =
     let facts = told-facts _ _ _ (told-right c) in
-    (facts .of-order .t-most, (facts .of-order .n-most, (facts .length-most, omega arith)))
+    (facts .of-told .of-order .t-most, (facts .of-told .of-order .n-most, (facts .length-most, omega arith)))
 
 within-requires : tie.Need-within-requires
 within-requires c κs = search needs
@@ -40,8 +40,8 @@ lent-number-requires c κs = search needs
 returns-2 : tie.Need-returns-2
 unfolding cutNumber
 returns-2 c =
-    let told = c .before .before .before in
-    rw (first-right _ _ (told-right told), lent-bytes _ _ _ 2048 _ (bytes (told .before .before .before .before)))
+    let else = c .before .before .before in
+    rw (first-right _ _ (told-right else), lent-bytes _ _ _ 2048 _ (bytes (else .before .before .before .before)))
     (c .lent-number .ensures ∙ rw (c .before .before .lent-right .ensures, c .before .within .ensures))
 
 pub refusal-spec : {M : Type 1} → statement M

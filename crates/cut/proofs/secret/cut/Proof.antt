@@ -17,15 +17,15 @@ abbrev start : tie.After-refusal → tie.Start
 start c = c .before .before .before .before .before
 
 accepted : (c : tie.Then1)
-    → let args = start (c .before) .args in cutNumber (args .o) (args .stamp) (args .secret .now) (args .random .now) (args .tray .now) ≡ 0
+    → let args = start (c .before) .args in cutNumber (args .told) (args .stamp) (args .secret .now) (args .random .now) (args .tray .now) ≡ 0
 accepted c = sym (c .before .refusal .ensures) ∙ c .if1 .taken
 
 facts : (c : tie.Then1)
-    → let args = start (c .before) .args in CutFacts (args .o) (args .stamp) (args .secret .now) (args .random .now) (args .tray .now)
+    → let args = start (c .before) .args in CutFacts (args .told) (args .stamp) (args .secret .now) (args .random .now) (args .tray .now)
 facts c = accepted-facts _ _ _ _ _ (accepted c)
 
-most : (c : tie.Then1) → let args = start (c .before) .args in length (args .secret .now) * (args .o .t + 1) ≤ 7616
-most c = let known = facts c .of-terms in columns-most _ _ (known .length-most) (known .of-order .t-most)
+most : (c : tie.Then1) → let args = start (c .before) .args in length (args .secret .now) * (args .told .order .t + 1) ≤ 7616
+most c = let known = facts c .of-terms in columns-most _ _ (known .length-most) (known .of-told .of-order .t-most)
 
 refusal-requires : tie.Need-refusal-requires
 refusal-requires c κs = search needs

@@ -9,7 +9,7 @@ use borrow.Author.Needs.{needs}
 use Rattle.cut.proofs.secret.fill.Statement.{statement}
 use Rattle.cut.proofs.secret.fill.Tie as tie
 
-facts : (c : tie.Start) → CutFacts (c .args .o) (c .args .stamp) (c .args .secret .now) (c .args .random .now) (c .args .tray .now)
+facts : (c : tie.Start) → CutFacts (c .args .told) (c .args .stamp) (c .args .secret .now) (c .args .random .now) (c .args .tray .now)
 facts c = accepted-facts _ _ _ _ _ (c .pre .0)
 
 put-bytes-requires : tie.Need-put-bytes-requires

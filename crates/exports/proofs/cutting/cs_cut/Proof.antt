@@ -1,11 +1,11 @@
--- `exports::cutting::cs_cut` meets its contract: it is the cut, of the order told.
+-- `exports::cutting::cs_cut` meets its contract: it is the cut, of the order and key told.
 -- Assumes nothing.
 use borrow.Author.Needs.{needs}
 use Rattle.exports.proofs.cutting.cs_cut.Statement.{statement}
 use Rattle.exports.proofs.cutting.cs_cut.Tie as tie
 
-order-told-requires : tie.Need-order-told-requires
-order-told-requires c κs = search needs
+as-told-requires : tie.Need-as-told-requires
+as-told-requires c κs = search needs
 
 cut-requires : tie.Need-cut-requires
 cut-requires c κs = search needs
@@ -14,7 +14,7 @@ same-length : tie.Need-same-length
 same-length c = search needs
 
 returns : tie.Need-returns
-returns c = rw (c .before .before .before .before .order-told .ensures) at (c .before .before .cut .ensures)
+returns c = rw (c .before .before .before .before .as-told .ensures) at (c .before .before .cut .ensures)
 
 pub cs-cut-spec : {M : Type 1} → statement M
-cs-cut-spec = tie.close (tie.spec order-told-requires cut-requires same-length returns)
+cs-cut-spec = tie.close (tie.spec as-told-requires cut-requires same-length returns)

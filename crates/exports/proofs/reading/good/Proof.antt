@@ -21,8 +21,11 @@ cast-t6 c = let s = c .before .before .before .before .before in omega (arith, l
 cast-t7 : tie.Need-cast-t7
 cast-t7 c = let s = c .before .before .before .before .before .before in omega (arith, lawful-head-facts (s .args .h) (s .pre))
 
+cast-t8 : tie.Need-cast-t8
+cast-t8 c = let s = c .before .before .before .before .before .before .before in omega (arith, lawful-head-facts (s .args .h) (s .pre))
+
 returns : tie.Need-returns
 returns c = search needs
 
 pub good-spec : {M : Type 1} → statement M
-good-spec = tie.close (tie.spec cast-t3 cast-t4 cast-t5 cast-t6 cast-t7 returns)
+good-spec = tie.close (tie.spec cast-t3 cast-t4 cast-t5 cast-t6 cast-t7 cast-t8 returns)

@@ -5,8 +5,8 @@ use Rattle.header.specs.Head.{headOf}
 use Rattle.header.proofs.head.head_of.Statement.{statement}
 use Rattle.header.proofs.head.head_of.Tie as tie
 
-order-of-requires : tie.Need-order-of-requires
-order-of-requires c κs = search needs
+told-of-requires : tie.Need-told-of-requires
+told-of-requires c κs = search needs
 
 wide-requires : tie.Need-wide-requires
 wide-requires c κs = search needs
@@ -19,9 +19,9 @@ length-of-requires c κs = search needs
 
 returns : tie.Need-returns
 unfolding headOf
-returns c = λ i. record { order = c .before .before .before .order-of .ensures i; keeper = c .before .before .wide .ensures i; stamp = c .before .stamp-of .ensures i; length = c .length-of .ensures i }
+returns c = λ i. record { told = c .before .before .before .told-of .ensures i; keeper = c .before .before .wide .ensures i; stamp = c .before .stamp-of .ensures i; length = c .length-of .ensures i }
 
 pub head-of-spec : {M : Type 1} → statement M
 head-of-spec =
     tie.close
-    (tie.spec order-of-requires wide-requires stamp-of-requires length-of-requires returns)
+    (tie.spec told-of-requires wide-requires stamp-of-requires length-of-requires returns)

@@ -8,9 +8,6 @@ use Rattle.header.specs.HeadLaws.{lawful-head-facts}
 use Rattle.header.proofs.head.words.Statement.{statement}
 use Rattle.header.proofs.head.words.Tie as tie
 
-cast-t6 : tie.Need-cast-t6
-cast-t6 c = omega (arith, lawful-head-facts _ (c .before .before .pre .0))
-
 cast-t7 : tie.Need-cast-t7
 cast-t7 c = omega (arith, lawful-head-facts _ (c .before .before .before .pre .0))
 
@@ -20,26 +17,32 @@ cast-t8 c = omega (arith, lawful-head-facts _ (c .before .before .before .before
 cast-t9 : tie.Need-cast-t9
 cast-t9 c = omega (arith, lawful-head-facts _ (c .before .before .before .before .before .pre .0))
 
-cast-t12 : tie.Need-cast-t12
-cast-t12 c = search needs
+cast-t10 : tie.Need-cast-t10
+cast-t10 c = omega (arith, lawful-head-facts _ (c .before .before .before .before .before .before .pre .0))
 
-cast-t15 : tie.Need-cast-t15
-cast-t15 c = search needs
+cast-t13 : tie.Need-cast-t13
+cast-t13 c = search needs
 
-cast-t18 : tie.Need-cast-t18
-cast-t18 c = search needs
+cast-t16 : tie.Need-cast-t16
+cast-t16 c = search needs
 
-cast-t20 : tie.Need-cast-t20
-cast-t20 c = search needs
+cast-t19 : tie.Need-cast-t19
+cast-t19 c = search needs
 
-cast-t23 : tie.Need-cast-t23
-cast-t23 c = search needs
+cast-t21 : tie.Need-cast-t21
+cast-t21 c = search needs
 
-cast-t25 : tie.Need-cast-t25
-cast-t25 c = search needs
+cast-t24 : tie.Need-cast-t24
+cast-t24 c = search needs
 
 cast-t26 : tie.Need-cast-t26
 cast-t26 c = search needs
+
+cast-t27 : tie.Need-cast-t27
+cast-t27 c = search needs
+
+cast-t28 : tie.Need-cast-t28
+cast-t28 c = omega (arith, lawful-head-facts _ (c .before .before .before .before .before .before .before .pre .0))
 
 returns : tie.Need-returns
 unfolding headWords
@@ -49,15 +52,16 @@ pub words-spec : {M : Type 1} → statement M
 words-spec =
     tie.close
     (tie.spec
-    cast-t6
     cast-t7
     cast-t8
     cast-t9
-    cast-t12
-    cast-t15
-    cast-t18
-    cast-t20
-    cast-t23
-    cast-t25
+    cast-t10
+    cast-t13
+    cast-t16
+    cast-t19
+    cast-t21
+    cast-t24
     cast-t26
+    cast-t27
+    cast-t28
     returns)

@@ -9,7 +9,7 @@ use Rattle.join.specs.Join.{joinRefusal}
 use Rattle.join.proofs.refusal.refusal.Statement.{statement}
 use Rattle.join.proofs.refusal.refusal.Tie as tie
 
-told-right : (c : tie.Else1) → let a = c .before .before .before .before .args in termsNumber (a .o) (a .stamp) (a .l) ≡ 0
+told-right : (c : tie.Else1) → let a = c .before .before .before .before .args in termsNumber (a .told) (a .stamp) (a .l) ≡ 0
 told-right c = sym (c .before .terms-number .ensures) ∙ c .if1 .left
 
 terms-number-requires : tie.Need-terms-number-requires
@@ -20,7 +20,7 @@ unfolding joinRefusal
 returns c = rw (← c .before .terms-number .ensures) (sym (first-wrong _ _ (c .if1 .taken)))
 
 lent-right-requires : tie.Need-lent-right-requires
-lent-right-requires c κs = told-facts _ _ _ (told-right c) .of-order .n-most
+lent-right-requires c κs = told-facts _ _ _ (told-right c) .of-told .of-order .n-most
 
 returns-2 : tie.Need-returns-2
 unfolding joinRefusal

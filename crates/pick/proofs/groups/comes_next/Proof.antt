@@ -2,7 +2,7 @@
 -- Assumes nothing.
 use borrow.Author.Needs.{needs}
 use borrow.Author.Tests.{lt-ltb, le-ltb}
-use Rattle.pick.specs.Keys.{comesNext}
+use Rattle.pick.specs.Ranks.{comesNext}
 use Rattle.pick.proofs.groups.comes_next.Statement.{statement}
 use Rattle.pick.proofs.groups.comes_next.Tie as tie
 

@@ -8,19 +8,19 @@ use Rattle.pick.proofs.groups.next_of.Statement.{statement}
 use Rattle.pick.proofs.groups.next_of.Tie as tie
 
 abbrev Inv-loop : tie.InvT-loop
-Inv-loop keys n least bound best₀ k₀ best k = NextTo keys n least bound best k
+Inv-loop ranks n least bound best₀ k₀ best k = NextTo ranks n least bound best k
 
 abbrev μ-loop : tie.MeasureT-loop
-μ-loop keys n least bound best₀ k₀ best k = n - k
+μ-loop ranks n least bound best₀ k₀ best k = n - k
 
 loop-holds : tie.Need-loop-holds Inv-loop μ-loop
 loop-holds c = next-none
 
-mul-key : tie.Need-mul-key Inv-loop μ-loop
-mul-key c = search needs
+mul-rank : tie.Need-mul-rank Inv-loop μ-loop
+mul-rank c = search needs
 
-shared-slice-read-key : tie.Need-shared-slice-read-key Inv-loop μ-loop
-shared-slice-read-key c = search needs
+shared-slice-read-rank : tie.Need-shared-slice-read-rank Inv-loop μ-loop
+shared-slice-read-rank c = search needs
 
 comes-next-requires : tie.Need-comes-next-requires Inv-loop μ-loop
 comes-next-requires c κs = search needs
@@ -49,8 +49,8 @@ next-of-spec =
     Inv-loop
     μ-loop
     loop-holds
-    mul-key
-    shared-slice-read-key
+    mul-rank
+    shared-slice-read-rank
     comes-next-requires
     add-k
     loop-less

@@ -21,7 +21,10 @@ usable-in-requires : tie.Need-usable-in-requires
 usable-in-requires c κs = search needs
 
 cast-put-lines : tie.Need-cast-put-lines
-cast-put-lines c = search needs
+cast-put-lines c = omega arith
+
+cast-put-lines-2 : tie.Need-cast-put-lines-2
+cast-put-lines-2 c = search needs
 
 put-lines-requires : tie.Need-put-lines-requires
 put-lines-requires c κs = search needs
@@ -32,10 +35,10 @@ same-length c = search needs
 returns : tie.Need-returns
 returns c =
     let lines = c .before .before in
-    let usables = lines .before .before in
+    let usables = lines .before .before .before in
     let join = usables .before .before in
-    let a = join .before .before .before .before .args in
-    record { result = join .join .result; left = join .join .last .1 .1 .1 .1 .0; done = rw (take-zeros (a .l) 952 (omega arith)) at (join .join .ensures); placed = record { written = rw (usables .usable-in .ensures, lines-of-set) at (lines .put-lines .ensures); numbered = refl } }
+    let start = join .before .before .before .before in
+    record { result = join .join .result; left = join .join .last .1 .1 .1 .1 .0; done = rw (take-zeros (start .args .l) 952 (start .pre .0 .short)) at (join .join .ensures); placed = record { written = rw (usables .usable-in .ensures, lines-of-set) at (lines .put-lines .ensures); numbered = refl } }
 
 pub report-joined-spec : {M : Type 1} → statement M
 report-joined-spec =
@@ -46,6 +49,7 @@ report-joined-spec =
     join-requires
     usable-in-requires
     cast-put-lines
+    cast-put-lines-2
     put-lines-requires
     same-length
     returns)

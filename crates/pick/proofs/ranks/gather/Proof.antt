@@ -1,18 +1,18 @@
--- `pick::keys::gather` meets its contract: the keys are listed from the front.
+-- `pick::ranks::gather` meets its contract: the ranks are listed from the front.
 -- Assumes nothing.
 use Prim.Native.Nat.{_-_}
 use native.Mathlib.Omega.{arith}
 use borrow.Author.Needs.{needs}
 use Rattle.tray.specs.SlotLaws.{length-slot}
 use Rattle.pick.proofs.Gathering.{GatheredTo, gathered-none, gathered-next, gathered-all}
-use Rattle.pick.proofs.keys.gather.Statement.{statement}
-use Rattle.pick.proofs.keys.gather.Tie as tie
+use Rattle.pick.proofs.ranks.gather.Statement.{statement}
+use Rattle.pick.proofs.ranks.gather.Tie as tie
 
 abbrev Inv-loop : tie.InvT-loop
-Inv-loop o tray keys₀ n k₀ keys k = GatheredTo o tray keys₀ keys k
+Inv-loop told tray ranks₀ n k₀ ranks k = GatheredTo told tray ranks₀ ranks k
 
 abbrev μ-loop : tie.MeasureT-loop
-μ-loop o tray keys₀ n k₀ keys k = n - k
+μ-loop told tray ranks₀ n k₀ ranks k = n - k
 
 loop-holds : tie.Need-loop-holds Inv-loop μ-loop
 loop-holds c = gathered-none
@@ -23,17 +23,17 @@ add-slot-of c = search needs
 slot-of-requires : tie.Need-slot-of-requires Inv-loop μ-loop
 slot-of-requires c κs = search needs
 
-add-key-in : tie.Need-add-key-in Inv-loop μ-loop
-add-key-in c = search needs
+add-rank-in : tie.Need-add-rank-in Inv-loop μ-loop
+add-rank-in c = search needs
 
-key-in-requires : tie.Need-key-in-requires Inv-loop μ-loop
-key-in-requires c κs = rw (c .slot-of .ensures) (length-slot _ _ (omega arith) (omega arith))
+rank-in-requires : tie.Need-rank-in-requires Inv-loop μ-loop
+rank-in-requires c κs = rw (c .slot-of .ensures) (length-slot _ _ (omega arith) (omega arith))
 
-mul-keys : tie.Need-mul-keys Inv-loop μ-loop
-mul-keys c = omega arith
+mul-ranks : tie.Need-mul-ranks Inv-loop μ-loop
+mul-ranks c = omega arith
 
-slice-write-keys : tie.Need-slice-write-keys Inv-loop μ-loop
-slice-write-keys c = omega arith
+slice-write-ranks : tie.Need-slice-write-ranks Inv-loop μ-loop
+slice-write-ranks c = omega arith
 
 add-k : tie.Need-add-k Inv-loop μ-loop
 add-k c = search needs
@@ -45,7 +45,7 @@ loop-again : tie.Need-loop-again Inv-loop μ-loop
 loop-again c =
     let slot = c .before in
     let turn = slot .before in
-    gathered-next (turn .before .loop .inv) (turn .loop-test .taken) (turn .before .before .before .before .pre .2) (slot .slot-of .ensures) (c .key-in .ensures)
+    gathered-next (turn .before .loop .inv) (turn .loop-test .taken) (turn .before .before .before .before .pre .2) (slot .slot-of .ensures) (c .rank-in .ensures)
 
 same-length : tie.Need-same-length Inv-loop μ-loop
 same-length c = c .before .loop .inv .size
@@ -62,10 +62,10 @@ gather-spec =
     loop-holds
     add-slot-of
     slot-of-requires
-    add-key-in
-    key-in-requires
-    mul-keys
-    slice-write-keys
+    add-rank-in
+    rank-in-requires
+    mul-ranks
+    slice-write-ranks
     add-k
     loop-less
     loop-again

@@ -1,9 +1,9 @@
--- `pick::keys::may_have` meets its contract, test by test.
+-- `pick::ranks::may_have` meets its contract, test by test.
 -- Assumes nothing.
 use borrow.Author.Needs.{needs}
-use Rattle.pick.specs.Keys.{mayHave}
-use Rattle.pick.proofs.keys.may_have.Statement.{statement}
-use Rattle.pick.proofs.keys.may_have.Tie as tie
+use Rattle.pick.specs.Ranks.{mayHave}
+use Rattle.pick.proofs.ranks.may_have.Statement.{statement}
+use Rattle.pick.proofs.ranks.may_have.Tie as tie
 
 lawful-requires : tie.Need-lawful-requires
 lawful-requires c κs = search needs
