@@ -10,13 +10,14 @@
  *    t        any t keepers together learn nothing of the secret but its length. t is 1..7.
  *    f        up to so many of the letters joined may be lies. f is 0..t.
  *    n        how many keepers there are, from t+4f+1 to 16.
- *    order    t, f and n together. Whoever cuts, keeps or joins a key is told the same order.
+ *    order    t, f and n together. Whoever cuts a secret, or keeps or joins its letters, is told the same order.
  *    key      the number of a signing key, 0..255, and not its bytes, which are the secret. By the number
  *             letters of one secret are told from letters of another: the boot key, say, has 1 and the mirror
  *             key 2. Whoever cuts chooses it, takes the same for every cut of that secret, and gives it to no
  *             other, save a new one that takes its place. Whoever keeps or joins letters is told it beside
  *             the order. It is no secret, and helps against mix-ups alone: a liar can write any number.
- *             Letters that were cut before version 0.5.0 are letters of key 0.
+ *             Letters that were cut before version 0.5.0 are letters of key 0, and a library before it reads no
+ *             others.
  *    word     a number 0..256. Sharing counts modulo 257, so a word has one value more than a byte.
  *    letter   what one keeper keeps of one cut: the order, the key's number, the keeper's number, the stamp,
  *             the secret's length, one share word for each byte of the secret, and check words. These find
@@ -186,9 +187,9 @@ typedef struct {
 /*
  * Offers a letter to the desk of this order, key and keeper. It is judged in this order: 1, 4, the letter's
  * own 9..13, 16, 14, 15. Where the number is 0 the desk then holds it; the letter that it held already is
- * no change. A held slot that isn't good for this desk counts as empty, and so does a letter of another order,
- * key or keeper: tell a desk the same at every call, or a letter of what was told by mistake takes the place
- * of the one held.
+ * no change. A held slot that isn't good for this desk counts as empty, and that is so where it holds a good
+ * letter of another order, key or keeper: tell a desk the same at every call, or the next letter of what was
+ * told by mistake takes the place of the one held.
  *
  * Lent: the held slot, 2048 bytes; the letter, 2048 bytes.
  * Writes: the letter to all of the held slot where the number is 0, else nothing.

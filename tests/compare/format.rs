@@ -1,6 +1,9 @@
 //! `docs/FORMAT.md`, the page of this file, beside the library and the second program: its worked
 //! numbers are read as they stand there, and both must give them.
 
+use std::io::Write;
+use std::process::Stdio;
+
 use second::block::{self, Words, BLOCK, WORDS};
 use second::both::Both;
 use second::compare::{Compared, Difference};
@@ -10,7 +13,7 @@ use second::document::{document, ends, fenced, number, numbers, optional, table}
 use second::join::Joined;
 use second::letter::{Fault, Head, Letter};
 use second::order::{Order, LONGEST, SLOT};
-use second::peer::Peer;
+use second::peer::{program, Peer};
 use second::pick::Picked;
 use second::report::report;
 use second::told::Told;
@@ -431,12 +434,25 @@ fn a_comparison() {
     }
 }
 
-/// Sees that the report on a tray is what stands below this heading. The program `report` is held to the
-/// same lines by its own comparison.
+/// What the program `report` and the second program both write on an input.
+fn written_on(input: &[u8]) -> String {
+    let mut process = program("programs/report")
+        .stdin(Stdio::piped())
+        .stdout(Stdio::piped())
+        .spawn()
+        .expect("the gate builds the report and what runs it");
+    let mut pipe = process.stdin.take().expect("it was asked for");
+    pipe.write_all(input).expect("a pipe has room for a tray of six slots");
+    drop(pipe);
+    let written = process.wait_with_output().expect("the program ends").stdout;
+    assert_eq!(written, report(input));
+    String::from_utf8(written).expect("what it writes is text")
+}
+
+/// Sees that the report on a tray is what stands below this heading.
 fn is_reported(page: &str, heading: &str, key: u8, tray: &[u8]) {
-    let written = report(&[&[1, 1, 6, key], tray].concat());
     let lines: String = fenced(page, heading).iter().map(|line| format!("{line}\n")).collect();
-    assert_eq!(String::from_utf8(written), Ok(lines));
+    assert_eq!(written_on(&[&[1, 1, 6, key], tray].concat()), lines);
 }
 
 #[test]
@@ -470,6 +486,6 @@ fn reports_of_short_inputs() {
         let bytes = if row[0] == "-" { vec![] } else { numbers(row[0]) };
         let input: Vec<u8> = bytes.into_iter().map(|byte| byte as u8).collect();
         let answer = format!("answer {}\n", number(row[1]));
-        assert_eq!(String::from_utf8(report(&input)), Ok(answer), "{row:?}");
+        assert_eq!(written_on(&input), answer, "{row:?}");
     }
 }

@@ -14,7 +14,7 @@ use second::pick::Picked;
 use second::random::Random;
 use second::told::Told;
 
-/// The keys at both ends, and the first and the last number of none.
+/// The first two keys and the last, and the first and the last number of none.
 const NUMBERS: [u32; 5] = [0, 1, 255, 256, u32::MAX];
 
 /// Lengths of one, two, three and four blocks.

@@ -7,7 +7,7 @@ use lib.ListN.{length}
 use Rattle.header.specs.declared.told.Told.{Told}
 use Rattle.header.specs.FirstOf.{both-right}
 use Rattle.header.specs.Terms.{termsNumber}
-use Rattle.header.specs.TermsLaws.{TermsFacts, told-facts, facts-told}
+use Rattle.header.specs.TermsLaws.{TermsFacts, terms-facts, facts-terms}
 use Rattle.cut.specs.Cut.{cutNumber}
 use Rattle.shares.specs.LentLaws.{LentFacts, lent-facts, facts-lent}
 
@@ -20,8 +20,8 @@ module _ (told : Told) (stamp : ℕ) (secret random tray : List ℕ) where
   unfolding cutNumber
   accepted-facts e =
       let right = both-right (termsNumber told stamp (length secret)) _ e in
-      record { of-terms = told-facts told stamp (length secret) (right .0); of-lent = lent-facts (told .order) secret random 2048 tray (right .1) }
+      record { of-terms = terms-facts told stamp (length secret) (right .0); of-lent = lent-facts (told .order) secret random 2048 tray (right .1) }
 
   pub facts-accepted : CutFacts → cutNumber told stamp secret random tray ≡ 0
   unfolding cutNumber
-  facts-accepted h = rw (facts-told told stamp (length secret) (h .of-terms), facts-lent (told .order) secret random 2048 tray (h .of-lent))
+  facts-accepted h = rw (facts-terms told stamp (length secret) (h .of-terms), facts-lent (told .order) secret random 2048 tray (h .of-lent))

@@ -14,7 +14,7 @@ use Rattle.header.specs.declared.told.Told.{Told}
 use Rattle.header.specs.OrderLaws.{KeeperFacts, facts-lawful-keeper}
 use Rattle.header.specs.Head.{lawfulHead}
 use Rattle.header.specs.Terms.{lawfulStamp}
-use Rattle.header.specs.Told.{lawfulKey, lawfulTold}
+use Rattle.header.specs.Told.{lawfulTold}
 use Rattle.format.specs.declared.reader.Reading.the-variants.{Good}
 use Rattle.format.specs.Reading.{readOf, sharesOf}
 use Rattle.format.specs.WrittenReads.{Reads, written-reads}
@@ -25,20 +25,16 @@ use Rattle.shares.specs.ShareWords.{length-share-words, below-share-words}
 use Rattle.cut.specs.Cut.{letterOf, cutTray}
 use Rattle.cut.specs.LetterField.{LetterField}
 
--- What one cut into letters is given: all that a cut of words is, and a lawful key and stamp.
+-- What one cut into letters is given: all that a cut of words is, a lawful order and key, and a lawful stamp.
 pub record OneCut (O : Ops) (told : Told) (stamp : ℕ) (constants random : List ℕ) : Type 0 where
   pub of-words : OneWords O (told .order) constants random
-  pub key-lawful : lawfulKey (told .key) ≡ true
+  pub told-lawful : lawfulTold told ≡ true
   pub stamp-lawful : lawfulStamp stamp ≡ true
-
-pub told-lawful : {O : Ops} {told : Told} {stamp : ℕ} {constants random : List ℕ} → OneCut O told stamp constants random → lawfulTold told ≡ true
-unfolding lawfulTold
-told-lawful C = rw (C .of-words .order-lawful) (C .key-lawful)
 
 module _ {O : Ops} (F : LetterField O) {told : Told} {stamp : ℕ} {constants random : List ℕ} (C : OneCut O told stamp constants random) where
   head-lawful : (x : ℕ) → KeeperFacts (told .order) x → lawfulHead (headFor told stamp (length constants) x) ≡ true
   unfolding lawfulHead
-  head-lawful x k = rw (told-lawful C, facts-lawful-keeper (told .order) x k, C .stamp-lawful) (C .of-words .length-lawful)
+  head-lawful x k = rw (C .told-lawful, facts-lawful-keeper (told .order) x k, C .stamp-lawful) (C .of-words .length-lawful)
 
   -- keeper x's letter reads as written
   letter-reads : (x : ℕ) → KeeperFacts (told .order) x → Reads (headFor told stamp (length constants) x) (shareWords O (told .order .t) x constants random)

@@ -74,7 +74,7 @@ agreed-given : {O : Ops} → LetterField O → {told : Told} {stamp l : ℕ} {tr
     → Given O told stamp l tray ps result left
 agreed-given F D z ps A = rw (A .bytes) at (reached-told F D z ps (A .reaches))
 
--- where nothing lent is refused, 0 is answered exactly when polynomials match enough letters and all their constants are bytes
+-- where nothing told or lent is refused, 0 is answered exactly when polynomials match enough letters and all their constants are bytes
 pub accepted : {O : Ops} → LetterField O → {told : Told} {stamp l : ℕ} {tray room left : List ℕ} {result : Joined}
     → JoinDone O told stamp l tray room result left → joinRefusal told stamp l tray room ≡ 0
     → (result .number ≡ 0) ↔ ((ps : List (List ℕ)) × SecretAgreed O told stamp l tray ps)

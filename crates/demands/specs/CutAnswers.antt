@@ -20,7 +20,7 @@ use Rattle.shares.specs.Words.{shareRows, WordsDone}
 use Rattle.shares.specs.WordsLaws.{accepted-words, words-accepted}
 use Rattle.cut.specs.Cut.{cutTray, CutDone}
 use Rattle.cut.specs.CutLaws.{accepted-facts, facts-accepted}
-use Rattle.cut.specs.OneCut.{OneCut, told-lawful}
+use Rattle.cut.specs.OneCut.{OneCut}
 
 -- what is lent to a cut that is not refused is what one cut is given
 module _ (order : Order) (constants random : List ℕ) (each : ℕ) (room : List ℕ) where
@@ -42,11 +42,10 @@ module _ (told : Told) (stamp : ℕ) (secret random tray : List ℕ) where
       → OneCut mod257 told stamp secret random × (left ≡ cutTray mod257 told stamp secret random)
   zero-one-cut D =
       let h = accepted-facts told stamp secret random tray (sym (D .answers)) in
-      let of-told = h .of-terms .of-told in
       let lawful = facts-lawful-terms told stamp (length secret) (h .of-terms) in (
         record {
-          of-words = lent-one (told .order) secret random 2048 tray (facts-lawful-order (told .order) (of-told .of-order)) (lawful .1) (h .of-lent);
-          key-lawful = simp (passes, of-told .key-most);
+          of-words = lent-one (told .order) secret random 2048 tray (facts-lawful-order (told .order) (h .of-terms .of-told .of-order)) (lawful .1) (h .of-lent);
+          told-lawful = lawful .0;
           stamp-lawful = lawful .2;
         },
         filled D (sym (D .answers)),
@@ -58,7 +57,7 @@ module _ (told : Told) (stamp : ℕ) (secret random tray : List ℕ) where
   one-cut-zero C s D =
       let W = C .of-words in
       let e = facts-accepted told stamp secret random tray (record {
-        of-terms = lawful-terms-facts told stamp (length secret) (told-lawful C) (W .length-lawful) (C .stamp-lawful);
+        of-terms = lawful-terms-facts told stamp (length secret) (C .told-lawful) (W .length-lawful) (C .stamp-lawful);
         of-lent = one-lent (told .order) secret random 2048 tray W s;
       }) in
       (D .answers ∙ e, filled D e)

@@ -9,7 +9,7 @@ use native.Mathlib.Omega.{arith}
 use lib.ListN.{length, take}
 use Rattle.lists.specs.Below.{Below, below-any}
 use Rattle.lists.specs.Chosen.{chosen, chosen-same}
-use Rattle.lists.specs.Count.{count, count-le-length}
+use Rattle.lists.specs.Count.{count-le-length}
 use Rattle.lists.specs.From.{from, length-from, from-in}
 use Rattle.lists.specs.KeeperSet.{member, keeperSet}
 use Rattle.lists.specs.KeeperSetLaws.{member-keeper-set}

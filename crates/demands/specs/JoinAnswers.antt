@@ -1,4 +1,4 @@
--- What it says that the join refuses nothing that was lent.
+-- What it says that the join refuses nothing that was told or lent.
 -- Assumes nothing.
 use Prim.Native.Nat.{ℕ, _*_}
 use mathlib.Core.Path.{_≡_}
@@ -10,7 +10,7 @@ use Rattle.header.specs.declared.told.Told.{Told}
 use Rattle.header.specs.Order.{lawfulOrder}
 use Rattle.header.specs.OrderLaws.{facts-lawful-order}
 use Rattle.header.specs.TermsLaws.{lawful-terms-facts}
-use Rattle.cut.specs.OneCut.{OneCut, told-lawful}
+use Rattle.cut.specs.OneCut.{OneCut}
 use Rattle.join.specs.Join.{joinRefusal}
 use Rattle.join.specs.RefusalLaws.{accepted-facts, facts-accepted}
 
@@ -22,7 +22,7 @@ pub cut-not-refused : {O : Ops} {told : Told} {stamp : ℕ} {secret random : Lis
     → (tray room : List ℕ) → length tray ≡ 2048 * told .order .n → length room ≡ length secret → joinRefusal told stamp (length secret) tray room ≡ 0
 cut-not-refused {told = told} {stamp} {secret} C tray room s s′ =
     facts-accepted told stamp (length secret) tray room (record {
-      of-terms = lawful-terms-facts told stamp (length secret) (told-lawful C) (C .of-words .length-lawful) (C .stamp-lawful);
+      of-terms = lawful-terms-facts told stamp (length secret) (C .told-lawful) (C .of-words .length-lawful) (C .stamp-lawful);
       tray-lent = s;
       room-lent = s′;
     })

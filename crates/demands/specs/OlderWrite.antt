@@ -11,7 +11,7 @@ use Rattle.header.specs.declared.told.Told.{Told}
 use Rattle.agree.specs.ReachesLaws.{reaches-many}
 use Rattle.cut.specs.Cut.{cutTray}
 use Rattle.cut.specs.LetterField.{LetterField, mod257-letters}
-use Rattle.cut.specs.OneCut.{OneCut, told-lawful}
+use Rattle.cut.specs.OneCut.{OneCut}
 use Rattle.join.specs.declared.Joined.{Joined}
 use Rattle.join.specs.Join.{JoinDone, judged, joined}
 use Rattle.pick.specs.declared.Picked.{Picked}
@@ -50,7 +50,7 @@ module _ {O : Ops} (F : LetterField O) {told : Told} {stamp : ℕ} {secret rando
       → Read O told stamp secret (cutTray O told stamp secret random) tray p
   write-read rest {p} D =
       let this : PickDone O told tray (picked 0 stamp (length secret)) =
-      chosen stamp (length secret) (facts-picked told tray (told-lawful C) slots) (record { has = joining; rest = rest }) in
+      chosen stamp (length secret) (facts-picked told tray (C .told-lawful) slots) (record { has = joining; rest = rest }) in
       let same : p ≡ picked 0 stamp (length secret) = pick-same F D this in
       record { names = same; gives = λ room after result s J. gives-right F C A (rw same at J) bytes slots (rw same at s) left }
 

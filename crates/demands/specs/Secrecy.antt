@@ -91,7 +91,7 @@ module _ {O : Ops} (F : LetterField O) {told : Told} {stamp : ℕ} {ks constants
           random-size = size;
           random-below = below;
         };
-        key-lawful = C .key-lawful;
+        told-lawful = C .told-lawful;
         stamp-lawful = C .stamp-lawful;
       } in
       (λ e. rw (slot-cut F D x k, slot-cut F C x k, s, e), λ e. cc (shares-cut F D x k, shares-cut F C x k))
@@ -101,7 +101,8 @@ module _ {O : Ops} (F : LetterField O) {told : Told} {stamp : ℕ} {ks constants
   pub secrecy : ExactlyOne (GivesSameBytes O told stamp ks (cutTray O told stamp constants random) constants′)
   secrecy = exactly-one-as O (told .order .t) ks constants′ _ _ _ _ letters-as (shares-one F (C .of-words) K constants′ s b)
 
--- The page's case: "modulo the prime 257", and both secrets are bytes. "Demand 3 fixes the key like the stamp": both are cut under one of each.
+-- The page's case: "modulo the prime 257", and both secrets are bytes. "Demand 3 fixes the key like the stamp": both are cut
+-- under the same order, key and stamp.
 pub demand-3 : {told : Told} {stamp : ℕ} {ks secret random : List ℕ} → OneCut mod257 told stamp secret random → AnyKeepers (told .order) ks
     → (secret′ : List ℕ) → length secret′ ≡ length secret → Below 256 secret′ → ExactlyOne (GivesSameBytes mod257 told stamp ks (cutTray mod257 told stamp secret random) secret′)
 demand-3 C K secret′ s b = secrecy mod257-letters C K secret′ s (λ i h. omega (arith, b i h))

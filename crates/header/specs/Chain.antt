@@ -18,7 +18,7 @@ pub neither : (p q : Bool) → p ≡ false → (p && q) ≡ false
 neither p q h = rw h
 
 -- a link that a call answered
-pub told : (r p b : Bool) → r ≡ p → r ≡ b → p ≡ b
-told r p b e h = sym e ∙ h
+pub answered : (r p b : Bool) → r ≡ p → r ≡ b → p ≡ b
+answered r p b e h = sym e ∙ h
 
-pub ruleset chain = (goes-on, stops, both, neither, told, le-leb, lt-leb, eq-eqb, ne-eqb)
+pub ruleset chain = (goes-on, stops, both, neither, answered, le-leb, lt-leb, eq-eqb, ne-eqb)

@@ -12,7 +12,7 @@ use Rattle.header.specs.Order.{lawfulKeeper}
 use Rattle.header.specs.Terms.{lawfulStamp, lawfulLength}
 use Rattle.header.specs.Told.{lawfulTold, sameTold}
 
--- what number 12 asks of a head: not "an unlawful order, a keeper outside 1..n, stamp 0, L out of range", nor "word 13 being 256"
+-- lawful, where number 12 finds none of "an unlawful order, a keeper outside 1..n, stamp 0, L out of range", "word 13 being 256"
 unfoldable pub lawfulHead : Head → Bool
 lawfulHead h = lawfulTold (h .told) && (lawfulKeeper (h .told .order) (h .keeper) && (lawfulStamp (h .stamp) && lawfulLength (h .length)))
 

@@ -24,14 +24,14 @@ module _ (told : Told) (stamp l : ℕ) where
   facts-lawful-terms h =
       (facts-lawful-told told (h .of-told), simp (passes, h .length-least, h .length-most), simp (passes, h .stamp-least, h .stamp-most))
 
-  pub told-facts : termsNumber told stamp l ≡ 0 → TermsFacts
+  pub terms-facts : termsNumber told stamp l ≡ 0 → TermsFacts
   unfolding termsNumber
-  told-facts e =
+  terms-facts e =
       let of-told = passing (lawfulTold told) _ 0 e in
       let of-length = passing (lawfulLength l) _ 1 (of-told .1) in
       let of-stamp = passing (lawfulStamp stamp) 0 2 (of-length .1) in
       lawful-terms-facts (of-told .0) (of-length .0) (of-stamp .0)
 
-  pub facts-told : TermsFacts → termsNumber told stamp l ≡ 0
+  pub facts-terms : TermsFacts → termsNumber told stamp l ≡ 0
   unfolding termsNumber
-  facts-told h = let lawful = facts-lawful-terms h in rw (lawful .0, lawful .1, lawful .2)
+  facts-terms h = let lawful = facts-lawful-terms h in rw (lawful .0, lawful .1, lawful .2)

@@ -10,7 +10,7 @@ use Rattle.header.specs.Order.{lawfulOrder, sameOrder}
 abbrev pub lawfulKey : ℕ → Bool
 lawfulKey key = leb key 255
 
--- what number 1 asks: not "order not lawful", nor "a key number above 255"
+-- lawful, where number 1 finds neither "order not lawful" nor "a key number above 255"
 unfoldable pub lawfulTold : Told → Bool
 lawfulTold told = lawfulOrder (told .order) && lawfulKey (told .key)
 

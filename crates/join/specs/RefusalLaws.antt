@@ -13,7 +13,7 @@ use Rattle.header.specs.FirstOf.{firstOf, both-right}
 use Rattle.header.specs.Told.{lawfulTold}
 use Rattle.header.specs.Passing.{passed, passes, passing}
 use Rattle.header.specs.Terms.{lawfulStamp, lawfulLength, termsNumber}
-use Rattle.header.specs.TermsLaws.{TermsFacts, told-facts, facts-told}
+use Rattle.header.specs.TermsLaws.{TermsFacts, terms-facts, facts-terms}
 use Rattle.join.specs.Join.{joinRefusal, answer, JoinDone, refused}
 
 -- the shapes of the refusals
@@ -49,12 +49,12 @@ module _ (told : Told) (stamp l : ℕ) (tray room : List ℕ) where
   accepted-facts e =
       let right = both-right (termsNumber told stamp l) _ e in
       let lent-right = passing (eqb (length tray) (2048 * told .order .n) && eqb (length room) l) 0 3 (right .1) .0 in
-      record { of-terms = told-facts told stamp l (right .0); tray-lent = search passed; room-lent = search passed }
+      record { of-terms = terms-facts told stamp l (right .0); tray-lent = search passed; room-lent = search passed }
 
   pub facts-accepted : JoinFacts → joinRefusal told stamp l tray room ≡ 0
   unfolding joinRefusal
   facts-accepted h =
-      simp (passes, facts-told told stamp l (h .of-terms), h .tray-lent, h .room-lent)
+      simp (passes, facts-terms told stamp l (h .of-terms), h .tray-lent, h .room-lent)
 
   -- a refusal is the promise already: its number, and the room as it was
   pub refused-done : (O : Ops) (number : ℕ) → number ≡ joinRefusal told stamp l tray room → (number ≡ 0 → ⊥)

@@ -1,4 +1,4 @@
--- How long a line can be. The lines of a key, of sixteen keepers and of the counts come to 389 bytes at the most.
+-- How long a line can be. The key's line, sixteen keepers' and that of the counts come to 389 bytes at the most.
 -- Assumes nothing.
 use Prim.Native.Nat.{ℕ, _+_, _^_, _<_, _≤_}
 use Prim.Native.String.{String}

@@ -56,7 +56,7 @@ toldIn input = record { order = orderIn input; key = getD input 3 0 }
 abbrev pub trayIn : List ℕ → List ℕ
 trayIn input = drop 4 input
 
--- the number of an input of fewer than four bytes: 1 where three are there and are no lawful order, and else 4
+-- "Fewer bytes or more are answer 4 (an unlawful order among three present bytes is 1)": of fewer than four bytes
 abbrev pub shortNumber : List ℕ → ℕ
 shortNumber input = cond (ltb (length input) 3 || lawfulOrder (orderIn input)) 4 1
 

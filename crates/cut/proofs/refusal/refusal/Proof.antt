@@ -7,7 +7,7 @@ use borrow.Author.Needs.{needs}
 use Rattle.lists.specs.Below.{Below}
 use Rattle.header.specs.FirstOf.{first-right, first-wrong}
 use Rattle.header.specs.Terms.{termsNumber}
-use Rattle.header.specs.TermsLaws.{told-facts}
+use Rattle.header.specs.TermsLaws.{terms-facts}
 use Rattle.shares.specs.LentLaws.{lent-bytes}
 use Rattle.cut.specs.Cut.{cutNumber}
 use Rattle.cut.proofs.refusal.refusal.Statement.{statement}
@@ -28,7 +28,7 @@ returns c = rw (← c .before .terms-number .ensures) (sym (first-wrong _ _ (c .
 
 lent-right-requires : tie.Need-lent-right-requires
 lent-right-requires c κs =
-    let facts = told-facts _ _ _ (told-right c) in
+    let facts = terms-facts _ _ _ (told-right c) in
     (facts .of-told .of-order .t-most, (facts .of-told .of-order .n-most, (facts .length-most, omega arith)))
 
 within-requires : tie.Need-within-requires

@@ -4,7 +4,7 @@ use mathlib.Core.Path.{_≡_, sym, _∙_}
 use borrow.Author.Needs.{needs}
 use Rattle.header.specs.FirstOf.{first-right, first-wrong}
 use Rattle.header.specs.Terms.{termsNumber}
-use Rattle.header.specs.TermsLaws.{told-facts}
+use Rattle.header.specs.TermsLaws.{terms-facts}
 use Rattle.join.specs.Join.{joinRefusal}
 use Rattle.join.proofs.refusal.refusal.Statement.{statement}
 use Rattle.join.proofs.refusal.refusal.Tie as tie
@@ -20,7 +20,7 @@ unfolding joinRefusal
 returns c = rw (← c .before .terms-number .ensures) (sym (first-wrong _ _ (c .if1 .taken)))
 
 lent-right-requires : tie.Need-lent-right-requires
-lent-right-requires c κs = told-facts _ _ _ (told-right c) .of-told .of-order .n-most
+lent-right-requires c κs = terms-facts _ _ _ (told-right c) .of-told .of-order .n-most
 
 returns-2 : tie.Need-returns-2
 unfolding joinRefusal
