@@ -12,6 +12,7 @@ long write(int file, const void *bytes, size_t count);
 uint32_t inner_cut_words(uint32_t t, uint32_t f, uint32_t n, const uint16_t *constants, size_t count,
                          const uint16_t *random, size_t random_count, uint16_t *rows, size_t room);
 uint16_t inner_share_word(uint16_t constant, const uint16_t *coefficients, size_t count, uint16_t x);
+uint32_t inner_drawn(uint16_t draw);
 
 enum { NUMBERS = 6, PARTS = 3, RESULTS = 9, GUARD = 64, GUARD_BYTE = 0xa5, LARGEST = 1 << 18 };
 
@@ -133,6 +134,7 @@ static int answer(void) {
         result[0] = inner_share_word((uint16_t)number[0], (const uint16_t *)first, size[0] / 2,
                                      (uint16_t)number[1]);
         return 1;
+    case 9: result[0] = inner_drawn((uint16_t)number[0]); return 1;
     default: return 0;
     }
 }

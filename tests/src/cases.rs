@@ -4,7 +4,7 @@ use crate::cut::cut;
 use crate::damage::{lie, share, slot};
 use crate::field::add;
 use crate::letter::{Head, Letter};
-use crate::order::{Order, LONGEST};
+use crate::order::{Order, LONGEST, SLOT};
 use crate::random::Random;
 use crate::told::Told;
 
@@ -98,6 +98,10 @@ impl Tray {
 
     pub fn length(&self) -> u32 {
         self.secret.len() as u32
+    }
+
+    pub fn letter(&self, keeper: u32) -> &[u8] {
+        &self.bytes[(keeper as usize - 1) * SLOT..][..SLOT]
     }
 
     /// Adds to a keeper's word, and makes the check good. Anything but 0 makes it a lie.

@@ -9,6 +9,10 @@
 //! Beside the rules stand the means to hold the proved library to them: `peer` calls it, `both` asks the
 //! two the same, `cases`, `groups` and `damage` make what they are asked, `document` reads what a page
 //! says of it, and `tally` counts the answers.
+//!
+//! And there are the means to hold the program `csalgodes` to what it promises: `run` starts it on words and
+//! tells how it ended, `scratch` is a folder for it to work in, and `planted` and `mounted` put into that
+//! folder what it should not meet there.
 
 pub mod block;
 pub mod both;
@@ -23,11 +27,15 @@ pub mod field;
 pub mod groups;
 pub mod join;
 pub mod letter;
+pub mod mounted;
 pub mod order;
 pub mod peer;
 pub mod pick;
+pub mod planted;
 pub mod random;
 pub mod report;
+pub mod run;
+pub mod scratch;
 pub mod solve;
 pub mod tally;
 pub mod told;

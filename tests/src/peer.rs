@@ -27,7 +27,7 @@ const GUARD_BYTE: u8 = 0xa5;
 const PLACE: usize = 10;
 
 /// Where the gate builds.
-const TARGET: &str = concat!(env!("CARGO_MANIFEST_DIR"), "/../target");
+pub const TARGET: &str = concat!(env!("CARGO_MANIFEST_DIR"), "/../target");
 
 /// Starts an x86-64 program on this machine.
 const START: &str = concat!(env!("CARGO_MANIFEST_DIR"), "/../library/start");
@@ -171,6 +171,11 @@ impl Peer {
         let Reply { numbers, left } = self.call(8, &numbers, &[&coefficients]);
         assert!(left[0] == coefficients, "the coefficients are only lent to be read");
         numbers[0]
+    }
+
+    /// The random word that a draw gives, or 257 where it is drawn again, by the same way.
+    pub fn drawn(&mut self, draw: u16) -> u32 {
+        self.call(9, &[u32::from(draw)], &[]).numbers[0]
     }
 
     pub fn join(

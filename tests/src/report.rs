@@ -25,7 +25,15 @@ fn report_on(told: Told, tray: &[u8]) -> String {
     if ![0, 7, 8].contains(&number) {
         return answer(number);
     }
+    report_of(told, stamp, length, tray)
+}
+
+/// The same of the letters of one stamp and length.
+pub fn report_of(told: Told, stamp: u32, length: u32, tray: &[u8]) -> String {
     let joined = join(told, stamp, length, tray, &mut vec![0; length as usize]);
+    if ![0, 7, 8].contains(&joined.number) {
+        return answer(joined.number);
+    }
     let letters = usable(told, stamp, length, tray);
     let is_usable = |keeper| letters.iter().any(|letter| letter.head.keeper == keeper);
 

@@ -35,7 +35,7 @@ fn is_ours(told: Told, keeper: usize, h: Head) -> bool
 }
 
 // The stamp of a slot's letter where it is good for this desk, and 0 where it is not.
-fn stamp_held(told: Told, keeper: usize, slot: &[u8]) -> u32
+pub fn stamp_held(told: Told, keeper: usize, slot: &[u8]) -> u32
     ensures { λ r. ⌜ r ≡ stampHeld told keeper (now (slot .entry)) ⌝ }
 {
     match read(slot) {

@@ -1,3 +1,3 @@
 // The lines of the report, written into bytes that are lent.
 pub mod line;
-mod text;
+pub mod text;

@@ -30,7 +30,7 @@ fn put_word(out: &mut [u8], at: usize, s: Standing) -> usize
 }
 
 // Writes a number after its name.
-fn put_named(out: &mut [u8], at: usize, name: &[u8], n: u32) -> usize
+pub fn put_named(out: &mut [u8], at: usize, name: &[u8], n: u32) -> usize
     requires { ⌜ at + length (now name) + 10 ≤ length (now out) ⌝ }
     ensures { λ r. ⌜ Written (now (out .entry)) at (now (name .entry) ++ decimal n) (now (out .exit)) r ⌝ }
     ensures { λ r. ⌜ r ≤ at + length (now (name .entry)) + 10 ⌝ }

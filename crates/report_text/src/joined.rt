@@ -11,7 +11,7 @@ use join::join;
 use tray::scan;
 
 // The usable keepers, as a set.
-fn usable_in(told: Told, stamp: u32, l: usize, tray: &[u8]) -> u16
+pub fn usable_in(told: Told, stamp: u32, l: usize, tray: &[u8]) -> u16
     requires { ⌜ Joinable told l (now tray) ⌝ }
     ensures { λ r. ⌜ r ≡ keeperSet (usable told stamp l (now (tray .entry))) (told .order .n) ⌝ }
 {

@@ -12,9 +12,9 @@ use header::told::Told;
 use pick::pick;
 
 pub mod answer;
-mod joined;
+pub mod joined;
 mod keeper;
-mod line;
+pub mod line;
 
 // Whether the lines of the group picked are written with the pick's number.
 fn has_lines(number: u32) -> bool

@@ -1,8 +1,8 @@
 -- `reporting::write_report` meets its contract: what is written is the report, and the status is its number or 100.
 -- Assumes nothing.
 use borrow.Author.Needs.{needs}
+use Rattle.io.proofs.Counting.{counts}
 use Rattle.report_text.specs.NumberLaws.{number-most}
-use Rattle.reporting.proofs.Counting.{within-counts}
 use Rattle.reporting.proofs.Ending.{within, ended}
 use Rattle.reporting.proofs.write_report.Statement.{statement}
 use Rattle.reporting.proofs.write_report.Tie as tie
@@ -14,7 +14,7 @@ array-share-prefix-out : tie.Need-array-share-prefix-out
 array-share-prefix-out c = within (c .report .ensures)
 
 slice-aggregate-wrote : tie.Need-slice-aggregate-wrote
-slice-aggregate-wrote c = within-counts _ (within (c .before .report .ensures)) .1
+slice-aggregate-wrote c = counts _ _ (within (c .before .report .ensures)) .1
 
 wrote-requires : tie.Need-wrote-requires
 wrote-requires c κs = search needs

@@ -1,0 +1,3 @@
+pub mod Draw
+pub mod DrawLaws
+pub mod LaidLaws

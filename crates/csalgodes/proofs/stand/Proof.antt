@@ -1,0 +1,54 @@
+-- `csalgodes::stand` meets its contract: one try less a turn.
+-- Assumes nothing.
+use borrow.Author.Needs.{needs}
+use Rattle.csalgodes.proofs.stand.Statement.{statement}
+use Rattle.csalgodes.proofs.stand.Tie as tie
+
+abbrev Inv-loop : tie.InvT-loop
+Inv-loop tries₀ t3 tries = Unit {0}
+
+abbrev μ-loop : tie.MeasureT-loop
+μ-loop tries₀ t3 tries = tries
+
+loop-holds : tie.Need-loop-holds Inv-loop μ-loop
+loop-holds c = search needs
+
+slice-aggregate-open-read : tie.Need-slice-aggregate-open-read Inv-loop μ-loop
+slice-aggregate-open-read c = search needs
+
+open-read-requires : tie.Need-open-read-requires Inv-loop μ-loop
+open-read-requires c κs = search needs
+
+close-requires : tie.Need-close-requires Inv-loop μ-loop
+close-requires c κs = search needs
+
+returns : tie.Need-returns Inv-loop μ-loop
+returns c = search needs
+
+sub-tries : tie.Need-sub-tries Inv-loop μ-loop
+sub-tries c = search needs
+
+loop-less : tie.Need-loop-less Inv-loop μ-loop
+loop-less c = search needs
+
+loop-again : tie.Need-loop-again Inv-loop μ-loop
+loop-again c = search needs
+
+returns-2 : tie.Need-returns-2 Inv-loop μ-loop
+returns-2 c = search needs
+
+pub stand-spec : {M : Type 1} → statement M
+stand-spec =
+    tie.close
+    (tie.spec
+    Inv-loop
+    μ-loop
+    loop-holds
+    slice-aggregate-open-read
+    open-read-requires
+    close-requires
+    returns
+    sub-tries
+    loop-less
+    loop-again
+    returns-2)

@@ -1,0 +1,3 @@
+// What stands at a name, and files read whole.
+pub mod kind;
+pub mod load;

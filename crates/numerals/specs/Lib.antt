@@ -1,0 +1,5 @@
+pub mod Numeral
+pub mod NumeralLaws
+pub mod Order
+pub mod OrderLaws
+pub mod Sample

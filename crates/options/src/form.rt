@@ -1,0 +1,207 @@
+// What each command takes: which options, which of them it needs, which names.
+use crate::given::Given;
+use crate::given::with_wrong;
+use saying::table::entry;
+use saying::table::place;
+use saying::wrong;
+
+pub const CUT: usize = 0;
+
+pub const SHOW: usize = 1;
+
+pub const STORE: usize = 2;
+
+pub const FETCH: usize = 3;
+
+pub const JOIN: usize = 4;
+
+pub const COMPARE: usize = 5;
+
+pub const COMMANDS: usize = 6;
+
+const COMMAND_WORDS: [u8; 33] = *b"cut\nshow\nstore\nfetch\njoin\ncompare";
+
+pub const ORDER: usize = 0;
+
+pub const KEY: usize = 1;
+
+pub const STAMP: usize = 2;
+
+pub const KEEPER: usize = 3;
+
+pub const LENGTH: usize = 4;
+
+pub const REPLACE: usize = 5;
+
+pub const HELP: usize = 6;
+
+pub const ENDS: usize = 7;
+
+pub const OPTIONS: usize = 8;
+
+const OPTION_WORDS: [u8; 59] =
+    *b"--order\n--key\n--stamp\n--keeper\n--length\n--replace\n--help\n--";
+
+// The first and the second name of each command.
+const NAME_WORDS: [u8; 70] =
+    *b"SECRET\nFOLDER\nLETTER\n\nDESK\nLETTER\nDESK\nLETTER\nTRAY\nSECRET\nBEFORE\nAFTER";
+
+pub struct Form {
+    pub needs: u32,
+    pub takes: u32,
+    pub names: u32,
+}
+
+// The options as bits: 1 --order, 2 --key, 4 --stamp, 8 --keeper, 16 --length, 32 --replace.
+pub fn form_of(command: usize) -> Form {
+    if command == CUT {
+        return Form {
+            needs: 7,
+            takes: 7,
+            names: 2,
+        };
+    }
+    if command == SHOW {
+        return Form {
+            needs: 0,
+            takes: 0,
+            names: 1,
+        };
+    }
+    if command == STORE {
+        return Form {
+            needs: 11,
+            takes: 11,
+            names: 2,
+        };
+    }
+    if command == FETCH {
+        return Form {
+            needs: 11,
+            takes: 43,
+            names: 2,
+        };
+    }
+    if command == JOIN {
+        return Form {
+            needs: 3,
+            takes: 55,
+            names: 2,
+        };
+    }
+    Form {
+        needs: 1,
+        takes: 1,
+        names: 2,
+    }
+}
+
+fn bit(option: usize) -> u32 {
+    match option {
+        0 => 1,
+        1 => 2,
+        2 => 4,
+        3 => 8,
+        4 => 16,
+        5 => 32,
+        _ => 0,
+    }
+}
+
+// Whether an option is among some.
+pub fn has(options: u32, option: usize) -> bool {
+    options & bit(option) != 0
+}
+
+// The options with one more.
+pub fn with_option(options: u32, option: usize) -> u32 {
+    options | bit(option)
+}
+
+// The number of the command that a word is; COMMANDS where it is none.
+pub fn command_of(word: &[u8]) -> usize {
+    place(&COMMAND_WORDS, COMMANDS, word)
+}
+
+// The number of the option that a word is; OPTIONS where it is none.
+pub fn option_of(word: &[u8]) -> usize {
+    place(&OPTION_WORDS, OPTIONS, word)
+}
+
+// Says which word is wrong, and by which rule.
+pub fn wrong_word(g: Given, command: usize, word: &[u8], rule: &[u8]) -> Given {
+    let name = entry(&COMMAND_WORDS, command);
+    let from = name.from;
+    let to = name.to;
+    wrong(&COMMAND_WORDS[from..to], word, rule);
+    with_wrong(g)
+}
+
+fn without_option(g: Given, command: usize, option: usize, rule: &[u8]) -> Given {
+    let name = entry(&OPTION_WORDS, option);
+    let from = name.from;
+    let to = name.to;
+    wrong_word(g, command, &OPTION_WORDS[from..to], rule)
+}
+
+fn without_name(g: Given, command: usize, name: usize) -> Given {
+    let part = entry(&NAME_WORDS, name);
+    let from = part.from;
+    let to = part.to;
+    wrong_word(
+        g,
+        command,
+        &NAME_WORDS[from..to],
+        b"is missing, the name of a file or a folder",
+    )
+}
+
+// The first option, of some, that is not among others; OPTIONS where all are.
+fn first_without(some: u32, others: u32) -> usize {
+    let mut option = 0;
+    while option < OPTIONS {
+        if has(some, option) && !has(others, option) {
+            return option;
+        }
+        option += 1;
+    }
+    option
+}
+
+// Whether of the stamp and the length one is given alone.
+fn is_half(seen: u32) -> bool {
+    has(seen, STAMP) != has(seen, LENGTH)
+}
+
+// Where the name stands in NAME_WORDS that is the next one of a command.
+fn next_name(command: usize, names: u32) -> usize {
+    if command >= COMMANDS {
+        return 0;
+    }
+    if names == 0 {
+        2 * command
+    } else {
+        2 * command + 1
+    }
+}
+
+// Sees that all is there that the command needs.
+pub fn whole(g: Given, command: usize) -> Given {
+    let form = form_of(command);
+    let missing = first_without(form.needs, g.seen);
+    if missing < OPTIONS {
+        return without_option(g, command, missing, b"is missing");
+    }
+    if command == JOIN && is_half(g.seen) {
+        return without_option(
+            g,
+            command,
+            STAMP,
+            b"goes with --length: give both to join just those, or neither",
+        );
+    }
+    if g.names < form.names {
+        return without_name(g, command, next_name(command, g.names));
+    }
+    g
+}
