@@ -52,48 +52,32 @@ pub struct Form {
     pub names: u32,
 }
 
+fn shaped(needs: u32, takes: u32, names: u32) -> Form {
+    Form {
+        needs,
+        takes,
+        names,
+    }
+}
+
 // The options as bits: 1 --order, 2 --key, 4 --stamp, 8 --keeper, 16 --length, 32 --replace.
 pub fn form_of(command: usize) -> Form {
     if command == CUT {
-        return Form {
-            needs: 7,
-            takes: 7,
-            names: 2,
-        };
+        return shaped(7, 7, 2);
     }
     if command == SHOW {
-        return Form {
-            needs: 0,
-            takes: 0,
-            names: 1,
-        };
+        return shaped(0, 0, 1);
     }
     if command == STORE {
-        return Form {
-            needs: 11,
-            takes: 11,
-            names: 2,
-        };
+        return shaped(11, 11, 2);
     }
     if command == FETCH {
-        return Form {
-            needs: 11,
-            takes: 43,
-            names: 2,
-        };
+        return shaped(11, 43, 2);
     }
     if command == JOIN {
-        return Form {
-            needs: 3,
-            takes: 55,
-            names: 2,
-        };
+        return shaped(3, 55, 2);
     }
-    Form {
-        needs: 1,
-        takes: 1,
-        names: 2,
-    }
+    shaped(1, 1, 2)
 }
 
 fn bit(option: usize) -> u32 {
