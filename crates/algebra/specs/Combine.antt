@@ -24,7 +24,7 @@ combine O ys fs (suc k) = O .add (combine O ys fs k) (O .mul (getD ys k 0) (getD
 abbrev pub factors : Ops → List ℕ → ℕ → List ℕ
 factors O xs x = map (λ a. factor O xs a x) xs
 
-combine-same : (O : Ops) (ys ys′ fs fs′ : List ℕ) (k : ℕ)
+pub combine-same : (O : Ops) (ys ys′ fs fs′ : List ℕ) (k : ℕ)
     → ((i : ℕ) → i < k → getD ys i 0 ≡ getD ys′ i 0) → ((i : ℕ) → i < k → getD fs i 0 ≡ getD fs′ i 0) → combine O ys fs k ≡ combine O ys′ fs′ k
 unfolding combine
 combine-same O ys ys′ fs fs′ zero hy hf = refl

@@ -6,6 +6,8 @@ pub mod Field
 pub mod Fraction
 pub mod Interpolate
 pub mod Lagrange
+pub mod Mixed
+pub mod OneMore
 pub mod OnePolynomial
 pub mod Points
 pub mod Poly
