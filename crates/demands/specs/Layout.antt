@@ -17,7 +17,7 @@ use Rattle.header.specs.declared.told.Told.{Told}
 use Rattle.header.specs.Head.{headWords}
 use Rattle.header.specs.Order.{lawfulOrder}
 use Rattle.header.specs.Told.{lawfulTold}
-use Rattle.format.specs.Letter.{blocksFor, blockShares, blockBytes, letterBytes}
+use Rattle.format.specs.Letter.{blocksFor, blockShares, blockBytes, slotBytes}
 use Rattle.tray.specs.Tray.{headFor}
 use Rattle.shares.specs.Shares.{shareWords}
 use Rattle.cut.specs.Cut.{letterOf}
@@ -55,10 +55,10 @@ pub record Layout : Type 0 where
   pub first-bytes : take 4 letter ≡ 0 ∷ 81 ∷ 0 ∷ 1 ∷ []
   pub rest : drop 512 letter ≡ replicate 1536 0
   -- the length's high byte comes first, and a later block has its place and the same key
-  pub later : drop 10 (headWords (headFor told stamp 259 5) 1) ≡ 1 ∷ 3 ∷ 1 ∷ 8 ∷ 0 ∷ 0 ∷ []
+  pub later : drop 10 (headWords 81 0 (headFor told stamp 259 5) 1) ≡ 1 ∷ 3 ∷ 1 ∷ 8 ∷ 0 ∷ 0 ∷ []
   -- the weights 3^128 and 3^253 modulo 257
   pub weights : (weight 128 ≡ 256) × (weight 253 ≡ 238)
 
 pub layout : Layout
-unfolding lawfulTold lawfulOrder letterOf letterBytes pieces blocksFor blockBytes blockShares headWords sealed listed total bytesOf wordsOf shareWords eval
+unfolding lawfulTold lawfulOrder letterOf slotBytes pieces blocksFor blockBytes blockShares headWords sealed listed total bytesOf wordsOf shareWords eval
 layout = record { lawful = refl; header = refl; shares = refl; checks = refl; first-bytes = refl; rest = refl; later = refl; weights = (refl, refl) }

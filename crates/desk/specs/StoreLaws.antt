@@ -15,7 +15,7 @@ use Rattle.header.specs.Head.{headOf}
 use Rattle.header.specs.Passing.{passed}
 use Rattle.format.specs.declared.reader.Reading.{Reading}
 use Rattle.format.specs.declared.reader.Reading.the-variants.{Good, Bad}
-use Rattle.format.specs.Reading.{blockWords, judgedFrom, readOf, noHead}
+use Rattle.format.specs.Reading.{blockWords, judgedFrom, readAs, readOf, noHead}
 use Rattle.format.specs.ReadingBounds.{FaultFacts, FaultsIn, fault-facts}
 use Rattle.desk.specs.Desk.{ofDesk, stampIn, stampHeld, deskRight, against, offered, storeNumber, storeLeaves}
 
@@ -72,8 +72,8 @@ module _ (told : Told) (keeper : ℕ) (held letter : List ℕ) where
   module _ (right : deskRight told keeper ≡ true) (size : length held ≡ 2048) where
     -- a letter of the wrong length does not read, with the desk's own number
     number-offered : storeNumber told keeper held letter ≡ offered told keeper held letter (readOf letter)
-    unfolding storeNumber readOf
-    number-offered = rw (right, eq-eqb (length held) 2048 size) (step (eqb (length letter) 2048) (judgedFrom letter (headOf (blockWords letter 0)) 0))
+    unfolding storeNumber readAs
+    number-offered = rw (right, eq-eqb (length held) 2048 size) (step (eqb (length letter) 2048) (judgedFrom 81 0 letter (headOf (blockWords letter 0)) 0))
       where
         step : (sized : Bool) (judged : Reading) → cond sized (offered told keeper held letter (cond sized judged (Bad 4 0))) 4 ≡ offered told keeper held letter (cond sized judged (Bad 4 0))
         step true judged = refl

@@ -35,16 +35,16 @@ laid-more bytes words now more n laid size room next e =
 zeros-left : (n : ℕ) → take {A = ℕ} (238 - n) (drop n (replicate 238 0)) ≡ replicate (238 - n) 0
 zeros-left n = rw drop-zeros (take-all (238 - n) (replicate (238 - n) 0) (rw length-replicate (omega arith)))
 
-module _ (h : Head) (p : ℕ) (shares bytes : List ℕ) (few : length shares ≤ 238) (size : length bytes ≡ 512) where
+module _ (mark from : ℕ) (h : Head) (p : ℕ) (shares bytes : List ℕ) (few : length shares ≤ 238) (size : length bytes ≡ 512) where
   pub block-laid : (b₁ b₂ b₃ : List ℕ)
-      → b₁ ≡ patched bytes 0 (bytesOf (headWords h p))
+      → b₁ ≡ patched bytes 0 (bytesOf (headWords mark from h p))
       → b₂ ≡ patched b₁ 32 (bytesOf shares)
       → b₃ ≡ patched b₂ (2 * (16 + length shares)) (bytesOf (take (238 - length shares) (drop (length shares) (replicate 238 0))))
-      → take 254 (wordsOf b₃) ≡ headWords h p ++ (shares ++ replicate (238 - length shares) 0)
+      → take 254 (wordsOf b₃) ≡ headWords mark from h p ++ (shares ++ replicate (238 - length shares) 0)
   block-laid b₁ b₂ b₃ e₁ e₂ e₃ =
-      let header = headWords h p in
+      let header = headWords mark from h p in
       let zeros : List ℕ = replicate (238 - length shares) 0 in
-      let long = length-head-words h p in
+      let long = length-head-words mark from h p in
       let rest : length zeros ≡ 238 - length shares = length-replicate (238 - length shares) 0 in
       let none : Laid bytes [] bytes = record { size = refl; are = sym (patched-none (wordsOf bytes) 0) } in
       let one = laid-more bytes [] bytes header 0 none refl (omega arith) b₁ e₁ in

@@ -15,7 +15,7 @@ use Rattle.header.specs.Head.{headOf}
 use Rattle.format.specs.declared.reader.Reading.{Reading}
 use Rattle.format.specs.declared.reader.Reading.the-variants.{Good, Bad}
 use Rattle.format.specs.Letter.{blocksFor}
-use Rattle.format.specs.Reading.{blockWords, letterBlockNumber, firstFault, endsInZeros, ending, judgedFrom, readOf}
+use Rattle.format.specs.Reading.{blockWords, letterBlockNumber, firstFault, endsInZeros, ending, judgedFrom, readAs}
 
 bad-not-good : (number place : ℕ) (h : Head) → Bad number place ≡ Good h → ⊥
 bad-not-good number place h e = let z : _≡_ {A = ℕ} 0 1 = cc in omega arith
@@ -44,33 +44,34 @@ module _ (number : ℕ → ℕ) (otherwise : Reading) where
         rest .1,
       )
 
-pub record GoodSlot (slot : List ℕ) (h : Head) : Type 0 where
-  pub size : length slot ≡ 2048
-  pub first : headOf (blockWords slot 0) ≡ h
-  pub faultless : (p : ℕ) → p < max 1 (blocksFor (h .length)) → letterBlockNumber h p (blockWords slot p) ≡ 0
-  pub ends : endsInZeros slot (h .length) ≡ true
+module _ (mark most : ℕ) where
+  pub record GoodSlot (slot : List ℕ) (h : Head) : Type 0 where
+    pub size : length slot ≡ 2048
+    pub first : headOf (blockWords slot 0) ≡ h
+    pub faultless : (p : ℕ) → p < max 1 (blocksFor (h .length)) → letterBlockNumber mark most h p (blockWords slot p) ≡ 0
+    pub ends : endsInZeros slot (h .length) ≡ true
 
-module _ (slot : List ℕ) (h : Head) where
-  pub slot-good : GoodSlot slot h → readOf slot ≡ Good h
-  unfolding readOf judgedFrom ending
-  slot-good good =
-      rw (eq-eqb (length slot) 2048 (good .size), good .first, sub-zero, good .ends)
-      (none-faulty (λ place. letterBlockNumber h place (blockWords slot place)) (Good h) (max 1 (blocksFor (h .length))) 0
-      (λ p least most. good .faultless p (omega arith)))
+  module _ (slot : List ℕ) (h : Head) where
+    pub slot-good : GoodSlot slot h → readAs mark most slot ≡ Good h
+    unfolding readAs judgedFrom ending
+    slot-good good =
+        rw (eq-eqb (length slot) 2048 (good .size), good .first, sub-zero, good .ends)
+        (none-faulty (λ place. letterBlockNumber mark most h place (blockWords slot place)) (Good h) (max 1 (blocksFor (h .length))) 0
+        (λ p least most. good .faultless p (omega arith)))
 
-  pub good-slot : readOf slot ≡ Good h → GoodSlot slot h
-  unfolding readOf judgedFrom ending
-  good-slot e =
-      let said = headOf (blockWords slot 0) in
-      let long = passed-good (eqb (length slot) 2048) (judgedFrom slot said 0) 4 0 h e in
-      let judged = good-none-faulty (λ place. letterBlockNumber said place (blockWords slot place)) (ending slot said) h (max 1 (blocksFor (said .length)) - 0) 0 (long .1) in
-      let ended = passed-good (endsInZeros slot (said .length)) (Good said) 13 0 h (judged .1) in
-      let met = ended .1 in
-      let same : said ≡ h = cc in
-      let many = ap (λ (g : Head). blocksFor (g .length)) same in
-      record {
-        size = eqb-true (length slot) 2048 (long .0);
-        first = same;
-        faultless = λ p within. rw same at (judged .0 p (omega arith) (omega arith));
-        ends = rw same at (ended .0);
-      }
+    pub good-slot : readAs mark most slot ≡ Good h → GoodSlot slot h
+    unfolding readAs judgedFrom ending
+    good-slot e =
+        let said = headOf (blockWords slot 0) in
+        let long = passed-good (eqb (length slot) 2048) (judgedFrom mark most slot said 0) 4 0 h e in
+        let judged = good-none-faulty (λ place. letterBlockNumber mark most said place (blockWords slot place)) (ending slot said) h (max 1 (blocksFor (said .length)) - 0) 0 (long .1) in
+        let ended = passed-good (endsInZeros slot (said .length)) (Good said) 13 0 h (judged .1) in
+        let met = ended .1 in
+        let same : said ≡ h = cc in
+        let many = ap (λ (g : Head). blocksFor (g .length)) same in
+        record {
+          size = eqb-true (length slot) 2048 (long .0);
+          first = same;
+          faultless = λ p within. rw same at (judged .0 p (omega arith) (omega arith));
+          ends = rw same at (ended .0);
+        }

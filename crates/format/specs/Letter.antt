@@ -1,4 +1,4 @@
--- The letter of a head and its share words: one slot only.
+-- The slot of a head and its share words, with a mark and a number in word 14 of each block; a letter is the case 81 and 0.
 -- Assumes nothing.
 use Prim.Native.Nat.{ℕ, _+_, _-_, _*_, _/_}
 use mathlib.Core.List.{List, _++_}
@@ -19,9 +19,14 @@ unfoldable pub blockShares : List ℕ → ℕ → List ℕ
 blockShares shares p = listed (λ i. getD shares (238 * p + i) 0) 238
 
 -- the 512 bytes of block p
-unfoldable pub blockBytes : Head → List ℕ → ℕ → List ℕ
-blockBytes h shares p = bytesOf (sealed (headWords h p ++ blockShares shares p))
+unfoldable pub blockBytes : ℕ → ℕ → Head → List ℕ → ℕ → List ℕ
+blockBytes mark from h shares p = bytesOf (sealed (headWords mark from h p ++ blockShares shares p))
 
--- the letter's blocks; "the rest of the slot is zero bytes"
-unfoldable pub letterBytes : Head → List ℕ → List ℕ
-letterBytes h shares = pieces (blockBytes h shares) (blocksFor (h .length)) ++ replicate (2048 - 512 * blocksFor (h .length)) 0
+-- its blocks; "the rest of the slot is zero bytes"
+unfoldable pub slotBytes : ℕ → ℕ → Head → List ℕ → List ℕ
+slotBytes mark from h shares =
+    pieces (blockBytes mark from h shares) (blocksFor (h .length)) ++ replicate (2048 - 512 * blocksFor (h .length)) 0
+
+-- a letter: word 0 is 81, and word 14 "stays 0"
+abbrev pub letterBytes : Head → List ℕ → List ℕ
+letterBytes h shares = slotBytes 81 0 h shares

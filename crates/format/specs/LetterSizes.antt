@@ -54,6 +54,6 @@ block-shares-part shares p =
     (simp (length-append, length-replicate) (omega (arith, length-share-part shares p)))
     (λ i h. getD-append-zeros (sharePart shares p) (238 - length (sharePart shares p)) i ∙ getD-share-part shares p i h))
 
-pub length-block-bytes : (h : Head) (shares : List ℕ) (p : ℕ) → length (blockBytes h shares p) ≡ 512
+pub length-block-bytes : (mark from : ℕ) (h : Head) (shares : List ℕ) (p : ℕ) → length (blockBytes mark from h shares p) ≡ 512
 unfolding blockBytes
-length-block-bytes h shares p = simp (length-bytes, length-sealed, length-append, length-head-words, length-block-shares)
+length-block-bytes mark from h shares p = simp (length-bytes, length-sealed, length-append, length-head-words, length-block-shares)

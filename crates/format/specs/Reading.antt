@@ -1,4 +1,4 @@
--- What a slot reads as.
+-- What a slot reads as, by the mark that it should have and the most that its words 14 may be; as a letter by 81 and 0.
 -- Assumes nothing.
 use Prim.Native.Nat.{ℕ, zero, suc, _*_, _-_, max}
 use mathlib.Core.Bool.{Bool, cond, _&&_}
@@ -21,9 +21,9 @@ abbrev pub blockWords : List ℕ → ℕ → List ℕ
 blockWords slot p = wordsOf (take 512 (drop (512 * p) slot))
 
 -- "in a block 9, then 10, 11, 12"; 0 where the block is good
-unfoldable pub letterBlockNumber : Head → ℕ → List ℕ → ℕ
-letterBlockNumber first p ws =
-    firstOf (blockNumber ws) (firstOf (cond (markRight ws) 0 11) (cond (headerRight first p ws) 0 12))
+unfoldable pub letterBlockNumber : ℕ → ℕ → Head → ℕ → List ℕ → ℕ
+letterBlockNumber mark most first p ws =
+    firstOf (blockNumber ws) (firstOf (cond (markRight mark ws) 0 11) (cond (headerRight most first p ws) 0 12))
 
 -- "the first faulty block decides, and its place is in the result": of k blocks from place p on, by the number of each
 unfoldable pub firstFault : (ℕ → ℕ) → ℕ → ℕ → Reading → Reading
@@ -47,12 +47,17 @@ unfoldable pub ending : List ℕ → Head → Reading
 ending slot h = cond (endsInZeros slot (h .length)) (Good h) (Bad 13 0)
 
 -- "Then blocks in place order": the judgement from place p on of a letter whose block 0 says h. Block 0 is judged whatever it says.
-unfoldable pub judgedFrom : List ℕ → Head → ℕ → Reading
-judgedFrom slot h p = firstFault (λ place. letterBlockNumber h place (blockWords slot place)) p (max 1 (blocksFor (h .length)) - p) (ending slot h)
+unfoldable pub judgedFrom : ℕ → ℕ → List ℕ → Head → ℕ → Reading
+judgedFrom mark most slot h p =
+    firstFault (λ place. letterBlockNumber mark most h place (blockWords slot place)) p (max 1 (blocksFor (h .length)) - p) (ending slot h)
 
 -- "Wrong slot length is 4."
-unfoldable pub readOf : List ℕ → Reading
-readOf slot = cond (eqb (length slot) 2048) (judgedFrom slot (headOf (blockWords slot 0)) 0) (Bad 4 0)
+unfoldable pub readAs : ℕ → ℕ → List ℕ → Reading
+readAs mark most slot = cond (eqb (length slot) 2048) (judgedFrom mark most slot (headOf (blockWords slot 0)) 0) (Bad 4 0)
+
+-- as a letter
+abbrev pub readOf : List ℕ → Reading
+readOf slot = readAs 81 0 slot
 
 -- the page's numbers for each answer: "A good letter answers 0 with its header's numbers and place 0"; a refusal's other numbers are 0
 abbrev pub numberOf : Reading → ℕ

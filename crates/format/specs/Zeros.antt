@@ -11,7 +11,7 @@ use Rattle.header.specs.Head.{headOf}
 use Rattle.header.specs.Rules.{markRight}
 use Rattle.format.specs.declared.reader.Reading.the-variants.{Bad}
 use Rattle.format.specs.Letter.{blocksFor}
-use Rattle.format.specs.Reading.{readOf, judgedFrom, firstFault, letterBlockNumber}
+use Rattle.format.specs.Reading.{readOf, readAs, judgedFrom, firstFault, letterBlockNumber}
 
 -- "A slot of zeros"
 abbrev pub zeroSlot : List ℕ
@@ -19,5 +19,5 @@ zeroSlot = replicate 2048 0
 
 -- "A slot of zeros gives 11 at place 0."
 pub zeros-read : readOf zeroSlot ≡ Bad 11 0
-unfolding readOf judgedFrom firstFault letterBlockNumber markRight blocksFor headOf blockNumber allAtMost checked total wordsOf
+unfolding readAs judgedFrom firstFault letterBlockNumber markRight blocksFor headOf blockNumber allAtMost checked total wordsOf
 zeros-read = refl

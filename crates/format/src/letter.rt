@@ -7,7 +7,7 @@ ghost use lib.ListN.{length, replicate};
 ghost use Rattle.block.specs.Words.{bytesOf};
 ghost use Rattle.block.specs.Check.{sealed};
 ghost use Rattle.header.specs.Head.{lawfulHead, headWords};
-ghost use Rattle.format.specs.Letter.{blocksFor, letterBytes};
+ghost use Rattle.format.specs.Letter.{blocksFor, slotBytes, letterBytes};
 use block::check::seal;
 use block::words::put_words;
 use header::head;
@@ -39,12 +39,12 @@ fn clear(slot: &mut [u8])
     }
 }
 
-// Writes block p of a letter, of its own share words.
-fn write_block(h: Head, p: usize, shares: &[u16], block: &mut [u8])
+// Writes block p, of its own share words.
+fn write_block(mark: u16, from: u16, h: Head, p: usize, shares: &[u16], block: &mut [u8])
     requires { ⌜ (lawfulHead h ≡ true) × (p < 4) × (length (now shares) ≤ 238) × (length (now block) ≡ 512) ⌝ }
-    ensures { λ _. ⌜ now (block .exit) ≡ bytesOf (sealed (headWords h p ++ (now (shares .entry) ++ replicate (238 - length (now (shares .entry))) 0))) ⌝ }
+    ensures { λ _. ⌜ now (block .exit) ≡ bytesOf (sealed (headWords mark from h p ++ (now (shares .entry) ++ replicate (238 - length (now (shares .entry))) 0))) ⌝ }
 {
-    let header = head::words(h, p);
+    let header = head::words(mark, from, h, p);
     let zeros = [0u16; 238];
     let count = shares.len();
     put_words(block, 0, &header);
@@ -53,19 +53,35 @@ fn write_block(h: Head, p: usize, shares: &[u16], block: &mut [u8])
     seal(block);
 }
 
-pub fn write(h: Head, shares: &[u16], slot: &mut [u8])
+// Writes a slot, with a mark in word 0 of each block and a number in word 14.
+pub fn write_as(mark: u16, from: u16, h: Head, shares: &[u16], slot: &mut [u8])
     requires { ⌜ (lawfulHead h ≡ true) × (length (now shares) ≡ h .length) × (length (now slot) ≡ 2048) ⌝ }
-    ensures { λ _. ⌜ now (slot .exit) ≡ letterBytes h (now (shares .entry)) ⌝ }
+    ensures { λ _. ⌜ now (slot .exit) ≡ slotBytes mark from h (now (shares .entry)) ⌝ }
 {
     clear(slot);
     let l = shares.len();
     let count = blocks(l);
     let mut p = 0;
     while p < count {
-        let from = 238 * p;
-        let to = end_of(from, l);
+        let start = 238 * p;
+        let to = end_of(start, l);
         let at = 512 * p;
-        write_block(h, p, &shares[from..to], &mut slot[at..at + 512]);
+        write_block(
+            mark,
+            from,
+            h,
+            p,
+            &shares[start..to],
+            &mut slot[at..at + 512],
+        );
         p += 1;
     }
+}
+
+// Writes a letter.
+pub fn write(h: Head, shares: &[u16], slot: &mut [u8])
+    requires { ⌜ (lawfulHead h ≡ true) × (length (now shares) ≡ h .length) × (length (now slot) ≡ 2048) ⌝ }
+    ensures { λ _. ⌜ now (slot .exit) ≡ letterBytes h (now (shares .entry)) ⌝ }
+{
+    write_as(81, 0, h, shares, slot);
 }

@@ -6,7 +6,7 @@ ghost use lib.ListN.{length, take, drop};
 ghost use Rattle.block.specs.Words.{wordsOf};
 ghost use Rattle.header.specs.FirstOf.{firstOf};
 ghost use Rattle.header.specs.Head.{lawfulHead};
-ghost use Rattle.format.specs.Reading.{letterBlockNumber, sharesOf, endsInZeros, judgedFrom, readOf};
+ghost use Rattle.format.specs.Reading.{letterBlockNumber, sharesOf, endsInZeros, judgedFrom, readAs, readOf};
 use crate::letter::blocks;
 use crate::letter::end_of;
 use block::bounds::all_at_most;
@@ -24,7 +24,7 @@ pub enum Reading {
 }
 
 // The bytes of the block at a place of a slot.
-fn block_at(slot: &[u8], place: usize) -> &[u8]
+pub fn block_at(slot: &[u8], place: usize) -> &[u8]
     requires { ⌜ (length (now slot) ≡ 2048) × (place < 4) ⌝ }
     ensures { λ r. ⌜ (now r ≡ take 512 (drop (512 * place) (now (slot .entry)))) × (length (now r) ≡ 512) ⌝ }
 {
@@ -50,13 +50,13 @@ fn first_of(one: u32, two: u32, three: u32) -> u32
 }
 
 // What is wrong with a block at its place in the letter that block 0 begins: 9, 10, 11, 12, or 0 where nothing is.
-fn block_number(first: Head, place: usize, block: &[u8]) -> u32
+fn block_number(mark: u16, most: u16, first: Head, place: usize, block: &[u8]) -> u32
     requires { ⌜ (length (now block) ≡ 512) × (place < 4) ⌝ }
-    ensures { λ r. ⌜ r ≡ letterBlockNumber first place (wordsOf (now (block .entry))) ⌝ }
+    ensures { λ r. ⌜ r ≡ letterBlockNumber mark most first place (wordsOf (now (block .entry))) ⌝ }
 {
     let checked = check::number(block);
-    let marked = unless(mark_right(block), 11);
-    let headed = unless(header_right(first, place, block), 12);
+    let marked = unless(mark_right(mark, block), 11);
+    let headed = unless(header_right(most, first, place, block), 12);
     first_of(checked, marked, headed)
 }
 
@@ -72,14 +72,14 @@ fn ends_in_zeros(slot: &[u8], l: usize) -> bool
 }
 
 // What a slot reads as whose block 0 is good and says `first`.
-fn read_on(slot: &[u8], first: Head) -> Reading
+fn read_on(mark: u16, most: u16, slot: &[u8], first: Head) -> Reading
     requires { ⌜ (length (now slot) ≡ 2048) × (lawfulHead first ≡ true) ⌝ }
-    ensures { λ r. ⌜ r ≡ judgedFrom (now (slot .entry)) first 1 ⌝ }
+    ensures { λ r. ⌜ r ≡ judgedFrom mark most (now (slot .entry)) first 1 ⌝ }
 {
     let count = blocks(first.length);
     let mut p = 1;
     while p < count {
-        let number = block_number(first, p, block_at(slot, p));
+        let number = block_number(mark, most, first, p, block_at(slot, p));
         if number != 0 {
             return Reading::Bad { number, place: p };
         }
@@ -95,8 +95,9 @@ fn read_on(slot: &[u8], first: Head) -> Reading
     }
 }
 
-pub fn read(slot: &[u8]) -> Reading
-    ensures { λ r. ⌜ r ≡ readOf (now (slot .entry)) ⌝ }
+// What a slot reads as, by the mark that it should have and the most that its words 14 may be.
+pub fn read_as(mark: u16, most: u16, slot: &[u8]) -> Reading
+    ensures { λ r. ⌜ r ≡ readAs mark most (now (slot .entry)) ⌝ }
 {
     if slot.len() != 2048 {
         return Reading::Bad {
@@ -106,11 +107,18 @@ pub fn read(slot: &[u8]) -> Reading
     }
     let block = block_at(slot, 0);
     let first = head_of(block);
-    let number = block_number(first, 0, block);
+    let number = block_number(mark, most, first, 0, block);
     if number != 0 {
         return Reading::Bad { number, place: 0 };
     }
-    read_on(slot, first)
+    read_on(mark, most, slot, first)
+}
+
+// What a slot reads as a letter.
+pub fn read(slot: &[u8]) -> Reading
+    ensures { λ r. ⌜ r ≡ readOf (now (slot .entry)) ⌝ }
+{
+    read_as(81, 0, slot)
 }
 
 // Fills a row with the share words of a letter of as many.

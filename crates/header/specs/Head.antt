@@ -24,12 +24,13 @@ sameHead a b = sameTold (a .told) (b .told) && (eqb (a .keeper) (b .keeper) && (
 abbrev pub byteOf : ℕ → ℕ → ℕ
 byteOf k x = x / 256 ^ k % 256
 
--- words 0..15 of block p, as the page's table has them; word 13 is the key
-unfoldable pub headWords : Head → ℕ → List ℕ
-headWords h p =
-    81 ∷ 1 ∷ h .told .order .t ∷ h .told .order .f ∷ h .told .order .n ∷ h .keeper
+-- words 0..15 of block p, as the page's table has them; word 13 is the key. Word 0 is the mark and word 14 what the mark asks for: "mark 82, the
+-- old keeper's number in word 14" of a sub-letter, 81 and 0 of a letter
+unfoldable pub headWords : ℕ → ℕ → Head → ℕ → List ℕ
+headWords mark from h p =
+    mark ∷ 1 ∷ h .told .order .t ∷ h .told .order .f ∷ h .told .order .n ∷ h .keeper
     ∷ byteOf 3 (h .stamp) ∷ byteOf 2 (h .stamp) ∷ byteOf 1 (h .stamp) ∷ byteOf 0 (h .stamp)
-    ∷ byteOf 1 (h .length) ∷ byteOf 0 (h .length) ∷ p ∷ h .told .key ∷ 0 ∷ 0 ∷ []
+    ∷ byteOf 1 (h .length) ∷ byteOf 0 (h .length) ∷ p ∷ h .told .key ∷ from ∷ 0 ∷ []
 
 -- the low byte of word i
 abbrev pub lowByte : List ℕ → ℕ → ℕ

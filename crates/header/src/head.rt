@@ -35,17 +35,17 @@ pub fn same(a: Head, b: Head) -> bool
         && (a.keeper == b.keeper && (a.stamp == b.stamp && a.length == b.length))
 }
 
-// Words 0..15 of block p of a letter.
-pub fn words(h: Head, p: usize) -> [u16; 16]
+// Words 0..15 of block p, with a mark in word 0 and a number in word 14.
+pub fn words(mark: u16, from: u16, h: Head, p: usize) -> [u16; 16]
     requires { ⌜ (lawfulHead h ≡ true) × (p < 4) ⌝ }
-    ensures { λ r. ⌜ r ≡ headWords h p ⌝ }
+    ensures { λ r. ⌜ r ≡ headWords mark from h p ⌝ }
 {
     let told = h.told;
     let o = told.order;
     let stamp = h.stamp;
     let length = h.length;
     [
-        81,
+        mark,
         1,
         o.t as u16,
         o.f as u16,
@@ -59,7 +59,7 @@ pub fn words(h: Head, p: usize) -> [u16; 16]
         (length % 256) as u16,
         p as u16,
         told.key as u16,
-        0,
+        from,
         0,
     ]
 }

@@ -11,9 +11,8 @@ use Rattle.header.specs.Head.{headOf, lawfulHead, sameHead}
 use Rattle.header.specs.HeadLaws.{lawful-head-facts, same-head-equal, equal-same-head}
 use Rattle.header.specs.Passing.{and-left, and-right}
 use Rattle.header.specs.TermsLaws.{TermsFacts}
-use Rattle.format.specs.GoodSlot.{good-slot}
 use Rattle.format.specs.Reading.{blockWords}
-use Rattle.format.specs.ReadingBounds.{good-lawful}
+use Rattle.format.specs.ReadingBounds.{good-lawful, good-said}
 use Rattle.tray.specs.Tray.{headFor, slotOf, usable}
 use Rattle.tray.specs.UsableLaws.{usable-reads}
 use Rattle.pick.specs.Ranks.{rankOf, stampIn, lengthIn, mayHave, rankAt}
@@ -49,7 +48,7 @@ module _ (told : Told) (tray : List ℕ) (k : ℕ) where
       let slot = slotOf tray (k + 1) in
       let h = headFor told stamp l (k + 1) in
       let reads = usable-reads told stamp l tray (k + 1) u in
-      rw (good-slot slot h reads .first, good-lawful slot h reads, equal-same-head h h refl)
+      rw (good-said 81 0 slot h reads, good-lawful slot h reads, equal-same-head h h refl)
 
   -- a rank is of a lawful stamp and length
   pub rank-terms : 1 ≤ rankAt told tray k → TermsFacts told (stampIn (rankAt told tray k)) (lengthIn (rankAt told tray k))

@@ -51,7 +51,7 @@ returns c =
     let header = rw (c .before .before .before .before .before .before .before .before .before .before .before .before .before .before .before .before .before .before .before .words .ensures) at (c .before .before .before .before .before .before .before .before .before .before .before .before .before .before .before .before .put-words .ensures) in
     c .before .before .seal .ensures
     ∙ ap (λ ws. bytesOf (sealed ws))
-    (block-laid (a .h) (a .p) (a .shares .now) (a .block .now) (start .pre .2) (start .pre .3) _ _ _ header (c .before .before .before .before .before .before .before .before .before .before .before .before .put-words2 .ensures) (c .before .before .before .before .before .before .put-words3 .ensures))
+    (block-laid (a .mark) (a .from) (a .h) (a .p) (a .shares .now) (a .block .now) (start .pre .2) (start .pre .3) _ _ _ header (c .before .before .before .before .before .before .before .before .before .before .before .before .put-words2 .ensures) (c .before .before .before .before .before .before .put-words3 .ensures))
 
 pub write-block-spec : {M : Type 1} → statement M
 write-block-spec =

@@ -12,13 +12,13 @@ use Rattle.format.proofs.reader.read_on.Statement.{statement}
 use Rattle.format.proofs.reader.read_on.Tie as tie
 
 abbrev Inv-loop : tie.InvT-loop
-Inv-loop slot first count p₀ p = JudgedTo slot first count p
+Inv-loop mark most slot first count p₀ p = JudgedTo mark most slot first count p
 
 abbrev μ-loop : tie.MeasureT-loop
-μ-loop slot first count p₀ p = count - p
+μ-loop mark most slot first count p₀ p = count - p
 
 found : (c : tie.After-block-number Inv-loop μ-loop) → let a = c .before .before .before .before .before .before .args in
-    c .block-number .result ≡ letterBlockNumber (a .first) (c .before .before .before .loop .p) (blockWords (a .slot .now) (c .before .before .before .loop .p))
+    c .block-number .result ≡ letterBlockNumber (a .mark) (a .most) (a .first) (c .before .before .before .loop .p) (blockWords (a .slot .now) (c .before .before .before .loop .p))
 found c = rw (c .before .block-at .ensures .0) at (c .block-number .ensures)
 
 blocks-requires : tie.Need-blocks-requires Inv-loop μ-loop
@@ -27,7 +27,7 @@ blocks-requires c κs = omega (arith, lawful-head-facts _ (c .before .pre .1))
 loop-holds : tie.Need-loop-holds Inv-loop μ-loop
 loop-holds c =
     let facts = lawful-head-facts _ (c .before .before .pre .1) in
-    judged-first _ _ _ (counted _ _ (facts .of-terms .length-most) (c .blocks2 .ensures))
+    judged-first _ _ _ _ _ (counted _ _ (facts .of-terms .length-most) (c .blocks2 .ensures))
 
 block-at-requires : tie.Need-block-at-requires Inv-loop μ-loop
 block-at-requires c κs = search needs
@@ -36,7 +36,7 @@ block-number-requires : tie.Need-block-number-requires Inv-loop μ-loop
 block-number-requires c κs = omega arith
 
 returns : tie.Need-returns Inv-loop μ-loop
-returns c = sym (judged-bad _ _ _ _ (c .before .before .before .before .loop .inv) (c .before .before .before .loop-test .taken) _ (found (c .before)) (c .if1 .taken))
+returns c = sym (judged-bad _ _ _ _ _ _ (c .before .before .before .before .loop .inv) (c .before .before .before .loop-test .taken) _ (found (c .before)) (c .if1 .taken))
 
 add-p : tie.Need-add-p Inv-loop μ-loop
 add-p c = search needs
@@ -45,7 +45,7 @@ loop-less : tie.Need-loop-less Inv-loop μ-loop
 loop-less c = search needs
 
 loop-again : tie.Need-loop-again Inv-loop μ-loop
-loop-again c = judged-next _ _ _ _ (c .before .before .before .before .loop .inv) (c .before .before .before .loop-test .taken) _ (found (c .before)) (c .if1 .left)
+loop-again c = judged-next _ _ _ _ _ _ (c .before .before .before .before .loop .inv) (c .before .before .before .loop-test .taken) _ (found (c .before)) (c .if1 .left)
 
 ends-in-zeros-requires : tie.Need-ends-in-zeros-requires Inv-loop μ-loop
 ends-in-zeros-requires c κs =
@@ -54,11 +54,11 @@ ends-in-zeros-requires c κs =
 
 returns-2 : tie.Need-returns-2 Inv-loop μ-loop
 unfolding ending
-returns-2 c = sym (judged-all _ _ _ _ (c .before .before .before .loop .inv) (c .before .before .loop-test .left) ∙ rw (← c .before .ends-in-zeros .ensures, c .if2 .taken))
+returns-2 c = sym (judged-all _ _ _ _ _ _ (c .before .before .before .loop .inv) (c .before .before .loop-test .left) ∙ rw (← c .before .ends-in-zeros .ensures, c .if2 .taken))
 
 returns-3 : tie.Need-returns-3 Inv-loop μ-loop
 unfolding ending
-returns-3 c = sym (judged-all _ _ _ _ (c .before .before .before .loop .inv) (c .before .before .loop-test .left) ∙ rw (← c .before .ends-in-zeros .ensures, c .if2 .left))
+returns-3 c = sym (judged-all _ _ _ _ _ _ (c .before .before .before .loop .inv) (c .before .before .loop-test .left) ∙ rw (← c .before .ends-in-zeros .ensures, c .if2 .left))
 
 pub read-on-spec : {M : Type 1} → statement M
 read-on-spec =

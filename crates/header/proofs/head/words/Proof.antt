@@ -8,41 +8,41 @@ use Rattle.header.specs.HeadLaws.{lawful-head-facts}
 use Rattle.header.proofs.head.words.Statement.{statement}
 use Rattle.header.proofs.head.words.Tie as tie
 
-cast-t7 : tie.Need-cast-t7
-cast-t7 c = omega (arith, lawful-head-facts _ (c .before .before .before .pre .0))
-
-cast-t8 : tie.Need-cast-t8
-cast-t8 c = omega (arith, lawful-head-facts _ (c .before .before .before .before .pre .0))
-
 cast-t9 : tie.Need-cast-t9
-cast-t9 c = omega (arith, lawful-head-facts _ (c .before .before .before .before .before .pre .0))
+cast-t9 c = omega (arith, lawful-head-facts _ (c .before .before .before .pre .0))
 
 cast-t10 : tie.Need-cast-t10
-cast-t10 c = omega (arith, lawful-head-facts _ (c .before .before .before .before .before .before .pre .0))
+cast-t10 c = omega (arith, lawful-head-facts _ (c .before .before .before .before .pre .0))
 
-cast-t13 : tie.Need-cast-t13
-cast-t13 c = search needs
+cast-t11 : tie.Need-cast-t11
+cast-t11 c = omega (arith, lawful-head-facts _ (c .before .before .before .before .before .pre .0))
 
-cast-t16 : tie.Need-cast-t16
-cast-t16 c = search needs
+cast-t12 : tie.Need-cast-t12
+cast-t12 c = omega (arith, lawful-head-facts _ (c .before .before .before .before .before .before .pre .0))
 
-cast-t19 : tie.Need-cast-t19
-cast-t19 c = search needs
+cast-t15 : tie.Need-cast-t15
+cast-t15 c = search needs
+
+cast-t18 : tie.Need-cast-t18
+cast-t18 c = search needs
 
 cast-t21 : tie.Need-cast-t21
 cast-t21 c = search needs
 
-cast-t24 : tie.Need-cast-t24
-cast-t24 c = search needs
+cast-t23 : tie.Need-cast-t23
+cast-t23 c = search needs
 
 cast-t26 : tie.Need-cast-t26
 cast-t26 c = search needs
 
-cast-t27 : tie.Need-cast-t27
-cast-t27 c = search needs
-
 cast-t28 : tie.Need-cast-t28
-cast-t28 c = omega (arith, lawful-head-facts _ (c .before .before .before .before .before .before .before .pre .0))
+cast-t28 c = search needs
+
+cast-t29 : tie.Need-cast-t29
+cast-t29 c = search needs
+
+cast-t30 : tie.Need-cast-t30
+cast-t30 c = omega (arith, lawful-head-facts _ (c .before .before .before .before .before .before .before .pre .0))
 
 returns : tie.Need-returns
 unfolding headWords
@@ -52,16 +52,16 @@ pub words-spec : {M : Type 1} → statement M
 words-spec =
     tie.close
     (tie.spec
-    cast-t7
-    cast-t8
     cast-t9
     cast-t10
-    cast-t13
-    cast-t16
-    cast-t19
+    cast-t11
+    cast-t12
+    cast-t15
+    cast-t18
     cast-t21
-    cast-t24
+    cast-t23
     cast-t26
-    cast-t27
     cast-t28
+    cast-t29
+    cast-t30
     returns)

@@ -1,4 +1,4 @@
--- `format::letter::write` meets its contract, block by block, over zeros.
+-- `format::letter::write_as` meets its contract, block by block, over zeros.
 -- Assumes nothing.
 use Prim.Native.Nat.{_-_}
 use mathlib.Core.Path.{sym, _∙_}
@@ -8,14 +8,14 @@ use borrow.Author.Needs.{needs}
 use Rattle.header.specs.HeadLaws.{lawful-head-facts}
 use Rattle.format.proofs.Counting.{counted}
 use Rattle.format.proofs.Writing.{WrittenTo, written-none, written-next, written-all}
-use Rattle.format.proofs.letter.write.Statement.{statement}
-use Rattle.format.proofs.letter.write.Tie as tie
+use Rattle.format.proofs.letter.write_as.Statement.{statement}
+use Rattle.format.proofs.letter.write_as.Tie as tie
 
 abbrev Inv-loop : tie.InvT-loop
-Inv-loop h shares slot₀ l count p₀ slot p = WrittenTo h shares count slot p
+Inv-loop mark from h shares slot₀ l count p₀ slot p = WrittenTo mark from h shares count slot p
 
 abbrev μ-loop : tie.MeasureT-loop
-μ-loop h shares slot₀ l count p₀ slot p = count - p
+μ-loop mark from h shares slot₀ l count p₀ slot p = count - p
 
 clear-requires : tie.Need-clear-requires Inv-loop μ-loop
 clear-requires c κs = search needs
@@ -27,10 +27,10 @@ loop-holds : tie.Need-loop-holds Inv-loop μ-loop
 loop-holds c =
     let start = c .before .before .before .before .before .before .before in
     let facts = lawful-head-facts _ (start .pre .0) in
-    written-none _ _ _ _ (counted _ _ (omega (arith, facts, start .pre .1)) (c .blocks2 .ensures)) _ (start .pre .2) (c .before .before .before .clear .ensures)
+    written-none _ _ _ _ _ _ (counted _ _ (omega (arith, facts, start .pre .1)) (c .blocks2 .ensures)) _ (start .pre .2) (c .before .before .before .clear .ensures)
 
-mul-from : tie.Need-mul-from Inv-loop μ-loop
-mul-from c = omega arith
+mul-start : tie.Need-mul-start Inv-loop μ-loop
+mul-start c = omega arith
 
 end-of-requires : tie.Need-end-of-requires Inv-loop μ-loop
 end-of-requires c κs = omega arith
@@ -72,16 +72,16 @@ loop-less : tie.Need-loop-less Inv-loop μ-loop
 loop-less c = search needs
 
 loop-again : tie.Need-loop-again Inv-loop μ-loop
-loop-again c = written-next _ _ _ _ _ (c .before .before .before .before .before .before .before .loop .inv) (c .before .before .before .before .before .before .loop-test .taken) _ (c .before .before .before .before .before .end-of .ensures) _ (c .before .before .write-block .ensures)
+loop-again c = written-next _ _ _ _ _ _ _ (c .before .before .before .before .before .before .before .loop .inv) (c .before .before .before .before .before .before .loop-test .taken) _ (c .before .before .before .before .before .end-of .ensures) _ (c .before .before .write-block .ensures)
 
 same-length : tie.Need-same-length Inv-loop μ-loop
 same-length c = c .before .loop .inv .size ∙ sym (c .before .before .before .before .before .before .before .before .before .pre .2)
 
 returns : tie.Need-returns Inv-loop μ-loop
-returns c = written-all _ _ _ _ _ (c .before .loop .inv) (c .loop-test .left) (c .before .before .before .before .before .before .before .before .before .pre .1)
+returns c = written-all _ _ _ _ _ _ _ (c .before .loop .inv) (c .loop-test .left) (c .before .before .before .before .before .before .before .before .before .pre .1)
 
-pub write-spec : {M : Type 1} → statement M
-write-spec =
+pub write-as-spec : {M : Type 1} → statement M
+write-as-spec =
     tie.close
     (tie.spec
     Inv-loop
@@ -89,7 +89,7 @@ write-spec =
     clear-requires
     blocks-requires
     loop-holds
-    mul-from
+    mul-start
     end-of-requires
     mul-at
     mul-write-block
