@@ -1,4 +1,5 @@
 pub mod Carried
+pub mod CarriedRows
 pub mod PlainRows
 pub mod PlainSum
 pub mod Weigh

@@ -46,7 +46,7 @@ pub fn carry_word(points: &[u16], words: &[u16], x: u16) -> u16
 }
 
 // Adds a row, times a factor, to the sums.
-fn add_row(sums: &mut [u32], row: &[u16], factor: u16)
+pub fn add_row(sums: &mut [u32], row: &[u16], factor: u16)
     requires { ⌜ Addition (now sums) (now row) factor ⌝ }
     ensures { λ _. ⌜ now (sums .exit) ≡ listed (λ i. getD (now (sums .entry)) i 0 + getD (now (row .entry)) i 0 * factor) (length (now (sums .entry))) ⌝ }
 {
@@ -57,7 +57,8 @@ fn add_row(sums: &mut [u32], row: &[u16], factor: u16)
     }
 }
 
-fn reduce(sums: &[u32], row: &mut [u16])
+// The sums, modulo 257.
+pub fn reduce(sums: &[u32], row: &mut [u16])
     requires { ⌜ length (now sums) ≡ length (now row) ⌝ }
     ensures { λ _. ⌜ now (row .exit) ≡ listed (λ i. getD (now (sums .entry)) i 0 % 257) (length (now (sums .entry))) ⌝ }
 {

@@ -2,21 +2,20 @@
 -- Assumes nothing.
 use Prim.Native.Nat.{_+_, _-_, _*_, _≤_}
 use mathlib.Core.Path.{_≡_, refl, sym, _∙_}
-use native.Mathlib.Nat.{add-sub-cancel-left, le-of-suc-le-suc}
+use native.Mathlib.Nat.{add-sub-cancel-left}
 use native.Mathlib.Omega.{arith}
 use lib.ListN.{length, getD, take, drop, length-append, length-drop}
 use lib.Seq.{length-take-le, take-at}
 use borrow.Author.Needs.{needs}
 use Rattle.lists.specs.Listed.{length-listed}
-use Rattle.algebra.specs.Factor.{factor-lt}
-use Rattle.field.specs.Laws.{mod257-field}
-use Rattle.weigh.specs.PlainRows.{plainRow, row-none, row-end, row-addition, row-next, row-reduced}
+use Rattle.weigh.specs.CarriedRows.{rowFront, row-end, carriage-rows, row-carried}
+use Rattle.weigh.specs.PlainRows.{plainRow, row-none, row-addition, row-next, row-reduced}
 use Rattle.weigh.proofs.carry_row.Statement.{statement}
 use Rattle.weigh.proofs.carry_row.Tie as tie
 
 abbrev Inv-loop : tie.InvT-loop
 Inv-loop points rows x row sums₀ size j₀ sums j =
-    (j ≤ length points) × (length sums ≡ 952) × (take size sums ≡ plainRow points rows x size j)
+    (j ≤ length points) × (length sums ≡ 952) × (take size sums ≡ plainRow points (rowFront points rows size) x size j)
 
 abbrev μ-loop : tie.MeasureT-loop
 μ-loop points rows x row sums₀ size j₀ sums j = length points - j
@@ -24,7 +23,7 @@ abbrev μ-loop : tie.MeasureT-loop
 loop-holds : tie.Need-loop-holds Inv-loop μ-loop
 loop-holds c =
     let start = c .before .before .before in
-    (search needs, refl, row-none (start .pre) (start .args .x))
+    (search needs, refl, row-none (carriage-rows (start .pre)) (start .args .x))
 
 mul-a : tie.Need-mul-a Inv-loop μ-loop
 mul-a c = search needs
@@ -80,9 +79,8 @@ add-row-requires : tie.Need-add-row-requires Inv-loop μ-loop
 add-row-requires c κs =
     let here = c .before .before .before .before .before .loop in
     let start = c .before .before .before .before .before .before .before .before .before in
-    let small : c .factor-of .result ≤ 256 = rw (c .factor-of .ensures) (le-of-suc-le-suc (factor-lt mod257-field _ _ _)) in
-    rw (add-sub-cancel-left, here .inv .2)
-    (row-addition (start .pre) (start .args .x) (here .j) (omega arith) _ (keeper (c .before .before .before .before) .2) _ small)
+    rw (add-sub-cancel-left, here .inv .2, c .factor-of .ensures)
+    (row-addition (carriage-rows (start .pre)) (start .args .x) (here .j) (omega arith))
 
 add-j : tie.Need-add-j Inv-loop μ-loop
 add-j c = search needs
@@ -95,7 +93,7 @@ loop-again c =
     let here = c .before .before .before .before .before .before .before .loop in
     let start = c .before .before .before .before .before .before .before .before .before .before .before in
     let n = length (start .args .row .now) in
-    let next = row-next (start .pre) (start .args .x) (here .j) in
+    let next = row-next (carriage-rows (start .pre)) (start .args .x) (here .j) in
     let size : length (c .before .add-row .last .0) ≡ n = c .before .add-row .kept .0 ∙ length-take-le n (here .sums) (omega arith) in (
       omega arith,
       simp (length-append, length-drop) (omega arith),
@@ -122,7 +120,7 @@ returns c =
     let start = c .before .before .before .before .before .before .before .before .before .before in
     let end : here .j ≡ length (start .args .points .now) = omega arith in
     c .before .before .reduce .ensures
-    ∙ rw (here .inv .2, length-listed, end) (row-reduced (start .pre) (start .args .x))
+    ∙ rw (here .inv .2, length-listed, end) (row-reduced (carriage-rows (start .pre)) (start .args .x) ∙ row-carried (start .pre) (start .args .x))
 
 pub carry-row-spec : {M : Type 1} → statement M
 carry-row-spec =
