@@ -5,3 +5,5 @@ pub mod Read
 pub mod Store
 pub mod StorePlace
 pub mod Told
+pub mod Move
+pub mod MovePlaces

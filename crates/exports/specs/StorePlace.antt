@@ -11,7 +11,7 @@ use Rattle.format.specs.Reading.{readOf, placeOf}
 use Rattle.format.specs.ReadingBounds.{small-place}
 use Rattle.desk.specs.Desk.{deskRight, storePlace}
 
-small-or-none : (test : Bool) (place : ℕ) → place < 512 → cond test place 0 < 512
+pub small-or-none : (test : Bool) (place : ℕ) → place < 512 → cond test place 0 < 512
 small-or-none true place h = h
 small-or-none false place h = omega arith
 
