@@ -3,3 +3,5 @@ pub mod NumeralLaws
 pub mod Order
 pub mod OrderLaws
 pub mod Sample
+pub mod Several
+pub mod SeveralLaws

@@ -1,10 +1,11 @@
-// Words as numbers: decimal digits, and an order as three of them with commas between.
+// Words as numbers: decimal digits; an order as three of them with commas between, and a list of them likewise.
 ghost use mathlib.Core.Path.{_≡_};
 ghost use mathlib.Core.Bool.{false, _&&_};
 ghost use lib.Dec.{leb};
 ghost use Rattle.numerals.specs.Numeral.{NumberRead};
 use crate::read::Number;
 
+pub mod list;
 pub mod order;
 pub mod read;
 

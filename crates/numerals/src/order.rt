@@ -19,7 +19,7 @@ struct Two {
 }
 
 // The place of the first comma, or the word's end.
-fn comma(word: &[u8]) -> usize
+pub(crate) fn comma(word: &[u8]) -> usize
     ensures { λ r. ⌜ FirstComma (now (word .entry)) r ⌝ }
 {
     let mut at = 0;
