@@ -1,5 +1,6 @@
 // The program csalgodes: letters, desks and trays as files.
 use block::bytes::same;
+use command_line::read;
 use files::load::front;
 use helping::help_word;
 use helping::say_help;
@@ -9,7 +10,6 @@ use helping::wrong_word;
 use options::form;
 use options::form::command_of;
 use options::given::Given;
-use options::read;
 use saying::trouble;
 
 // Gives standard input, output and error a number each where they are closed, so that no file that is opened later gets

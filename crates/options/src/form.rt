@@ -17,9 +17,16 @@ pub const JOIN: usize = 4;
 
 pub const COMPARE: usize = 5;
 
-pub const COMMANDS: usize = 6;
+pub const MOVE_CUT: usize = 6;
 
-const COMMAND_WORDS: [u8; 33] = *b"cut\nshow\nstore\nfetch\njoin\ncompare";
+pub const MOVE_WEIGH: usize = 7;
+
+pub const MOVE_CHECK: usize = 8;
+
+pub const COMMANDS: usize = 9;
+
+const COMMAND_WORDS: [u8; 64] =
+    *b"cut\nshow\nstore\nfetch\njoin\ncompare\nmove-cut\nmove-weigh\nmove-check";
 
 pub const ORDER: usize = 0;
 
@@ -33,18 +40,22 @@ pub const LENGTH: usize = 4;
 
 pub const REPLACE: usize = 5;
 
-pub const HELP: usize = 6;
+pub const FROM: usize = 6;
 
-pub const ENDS: usize = 7;
+pub const KEEPERS: usize = 7;
 
-pub const OPTIONS: usize = 8;
+pub const HELP: usize = 8;
 
-const OPTION_WORDS: [u8; 59] =
-    *b"--order\n--key\n--stamp\n--keeper\n--length\n--replace\n--help\n--";
+pub const ENDS: usize = 9;
+
+pub const OPTIONS: usize = 10;
+
+const OPTION_WORDS: [u8; 76] =
+    *b"--order\n--key\n--stamp\n--keeper\n--length\n--replace\n--from\n--keepers\n--help\n--";
 
 // The first and the second name of each command.
-const NAME_WORDS: [u8; 70] =
-    *b"SECRET\nFOLDER\nLETTER\n\nDESK\nLETTER\nDESK\nLETTER\nTRAY\nSECRET\nBEFORE\nAFTER";
+const NAME_WORDS: [u8; 111] =
+    *b"SECRET\nFOLDER\nLETTER\n\nDESK\nLETTER\nDESK\nLETTER\nTRAY\nSECRET\nBEFORE\nAFTER\nLETTER\nFOLDER\nFOLDER\nLETTER\nFIRST\nSECOND";
 
 pub struct Form {
     pub needs: u32,
@@ -60,8 +71,22 @@ fn shaped(needs: u32, takes: u32, names: u32) -> Form {
     }
 }
 
-// The options as bits: 1 --order, 2 --key, 4 --stamp, 8 --keeper, 16 --length, 32 --replace.
+// Of the commands that move a key.
+fn form_of_move(command: usize) -> Form {
+    if command == MOVE_CUT {
+        return shaped(95, 95, 2);
+    }
+    if command == MOVE_WEIGH {
+        return shaped(223, 255, 2);
+    }
+    shaped(3, 3, 2)
+}
+
+// The options as bits: 1 --order, 2 --key, 4 --stamp, 8 --keeper, 16 --length, 32 --replace, 64 --from, 128 --keepers.
 pub fn form_of(command: usize) -> Form {
+    if command >= MOVE_CUT {
+        return form_of_move(command);
+    }
     if command == CUT {
         return shaped(7, 7, 2);
     }
@@ -80,6 +105,15 @@ pub fn form_of(command: usize) -> Form {
     shaped(1, 1, 2)
 }
 
+// Whether standard input or output can stand in the place of a command's first or second name.
+pub fn takes_dash(command: usize, second: bool) -> bool {
+    if second {
+        command == STORE || (command == FETCH || (command == JOIN || command == MOVE_WEIGH))
+    } else {
+        command == CUT || (command == SHOW || command == MOVE_CUT)
+    }
+}
+
 fn bit(option: usize) -> u32 {
     match option {
         0 => 1,
@@ -88,6 +122,8 @@ fn bit(option: usize) -> u32 {
         3 => 8,
         4 => 16,
         5 => 32,
+        6 => 64,
+        7 => 128,
         _ => 0,
     }
 }

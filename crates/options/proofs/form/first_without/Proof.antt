@@ -6,10 +6,10 @@ use Rattle.options.proofs.form.first_without.Statement.{statement}
 use Rattle.options.proofs.form.first_without.Tie as tie
 
 abbrev Inv-loop : tie.InvT-loop
-Inv-loop some others option₀ option = option ≤ 8
+Inv-loop some others option₀ option = option ≤ 10
 
 abbrev μ-loop : tie.MeasureT-loop
-μ-loop some others option₀ option = 8 - option
+μ-loop some others option₀ option = 10 - option
 
 loop-holds : tie.Need-loop-holds Inv-loop μ-loop
 loop-holds c = search needs

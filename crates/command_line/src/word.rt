@@ -1,15 +1,15 @@
 // One word at a time: an option or a name.
-use crate::form;
-use crate::form::form_of;
-use crate::form::has;
-use crate::form::option_of;
-use crate::form::with_option;
-use crate::form::wrong_word;
-use crate::given::Given;
-use crate::given::with_taken;
 use crate::value::value;
 use files::load::front;
 use files::load::is_dash;
+use options::form;
+use options::form::form_of;
+use options::form::has;
+use options::form::option_of;
+use options::form::with_option;
+use options::form::wrong_word;
+use options::given::Given;
+use options::given::with_taken;
 
 // Whether a word has the form of an option: it begins with - and has more behind it.
 fn is_option(word: &[u8]) -> bool {
@@ -17,15 +17,6 @@ fn is_option(word: &[u8]) -> bool {
         return false;
     }
     word[0] == 45
-}
-
-// Whether standard input or output can stand in the place of a command's first or second name.
-fn takes_dash(command: usize, second: bool) -> bool {
-    if second {
-        command == form::STORE || (command == form::FETCH || command == form::JOIN)
-    } else {
-        command == form::CUT || command == form::SHOW
-    }
 }
 
 fn with_name(g: Given, at: usize) -> Given {
@@ -47,7 +38,7 @@ fn name(g: Given, command: usize, at: usize, word: &[u8]) -> Given {
     if g.names >= form_of(command).names {
         return wrong_word(g, command, word, b"is one name too many");
     }
-    if is_dash(word) && !takes_dash(command, g.names == 1) {
+    if is_dash(word) && !form::takes_dash(command, g.names == 1) {
         return wrong_word(
             g,
             command,

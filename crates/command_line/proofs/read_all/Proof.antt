@@ -1,8 +1,8 @@
--- `options::read_all` meets its contract: each turn is one of as many as there are words.
+-- `command_line::read_all` meets its contract: each turn is one of as many as there are words.
 -- Assumes nothing.
 use borrow.Author.Needs.{needs}
-use Rattle.options.proofs.read_all.Statement.{statement}
-use Rattle.options.proofs.read_all.Tie as tie
+use Rattle.command_line.proofs.read_all.Statement.{statement}
+use Rattle.command_line.proofs.read_all.Tie as tie
 
 abbrev Inv-loop : tie.InvT-loop
 Inv-loop count command g₀ turns₀ g turns = Unit {0}
