@@ -6,7 +6,7 @@ use saving::save::said;
 use saying::line::four;
 use saying::line::say;
 
-const USAGE: [u8; 1242] = *b"\
+const USAGE: [u8; 1722] = *b"\
 csalgodes: a signing key as letters, one for each of N keepers, that come back
 right or not at all.
 
@@ -17,6 +17,11 @@ right or not at all.
   csalgodes join    --order T,F,N --key K [--stamp S --length L] [--replace]
                     TRAY SECRET
   csalgodes compare --order T,F,N BEFORE AFTER
+  csalgodes move-cut   --from T,F,N --order T,F,N --key K --length L --stamp S
+                       --keeper X LETTER FOLDER
+  csalgodes move-weigh --from T,F,N --order T,F,N --key K --length L --stamp S
+                       --keepers A,B,.. --keeper Y [--replace] FOLDER LETTER
+  csalgodes move-check --order T,F,N --key K FIRST SECOND
   csalgodes help [COMMAND]
   csalgodes --version
 
@@ -24,14 +29,15 @@ T,F,N is the order, as 2,1,8: any T keepers together learn nothing of the key,
 up to F may lie, there are N keepers. T is 1 to 7, F 0 to T, N from T+4F+1 to
 16. K is the number of the key, 0 to 255, by which letters of one key are told
 from those of another; S the stamp, 1 or more, greater for each new cut; X the
-number of a keeper, 1 to N.
+number of a keeper, 1 to N; L how many bytes the key has. A move takes the key
+from the keepers of one order, --from, to those of another, and no host has it.
 
 A letter is a file of 2048 bytes, and so is the desk of a keeper. A tray is a
 folder of letters named 1 .. N after their keepers. - is standard input or
 output where a SECRET or a LETTER goes. -- ends the options.
 
 The status is the number that the library answers, 0 where all is well; 99
-where trays differ; 100 is trouble with a file, 101 a wrong word.
+where trays or keys differ; 100 is trouble with a file, 101 a wrong word.
 ";
 
 const CUT: [u8; 594] = *b"\
@@ -111,6 +117,79 @@ and with 99 where one does. The words are of letters: keep what it prints as
 you keep the letters.
 ";
 
+const MOVE_CUT: [u8; 1040] = *b"\
+csalgodes move-cut --from T,F,N --order T,F,N --key K --length L --stamp S
+                   --keeper X LETTER FOLDER
+
+The old keeper X cuts its letter anew, for the keepers of a new order. LETTER,
+a file or - for standard input, is its letter of the old order, --from, of key
+K and of L bytes. FOLDER gets a sub-letter for each keeper of the new order,
+--order: the files 1 .. N. FOLDER must not be there yet, or be empty; it gets
+all of them at once, or none where something fails. Nobody but you can read
+it. S is the stamp of the new letters, the same at all old keepers; one that
+is not above LETTER's is answered 20. A letter of another order, key, keeper
+or length is answered 16.
+
+Cut once for a move: sub-letters of a second cut do not go with the first. All
+sub-letters in one folder are as good as LETTER: bring each to its new keeper,
+and remove the folder. A move-cut that was killed may leave FOLDER.new behind:
+remove that too. LETTER stays. Keep it until the move is seen to be right:
+'csalgodes help move-check' says how.
+";
+
+const MOVE_WEIGH: [u8; 956] = *b"\
+csalgodes move-weigh --from T,F,N --order T,F,N --key K --length L --stamp S
+                     --keepers A,B,.. --keeper Y [--replace] FOLDER LETTER
+
+The new keeper Y weighs the sub-letters of old keepers into its own letter. In
+FOLDER the file A is the sub-letter that it got from old keeper A, the file B
+that from B, and so on. --keepers lists the T+1 old keepers to weigh, with the
+T of the old order, --from; all new keepers must list the same. The letter is
+of the new order, --order, of key K, keeper Y, stamp S and length L. It goes
+into the file LETTER, or to standard output for -. A file LETTER that is there
+stays, unless --replace is said.
+
+A sub-letter of another order, key, keeper, stamp or length is answered 16. An
+old keeper that is repeated, missing or not listed is answered 19.
+
+The sub-letters of a new keeper are as good as its letter: remove them once
+they are weighed. 'csalgodes help move-check' says why to weigh them twice.
+";
+
+const MOVE_CHECK: [u8; 1183] = *b"\
+csalgodes move-check --order T,F,N --key K FIRST SECOND
+
+Joins two trays of moved letters, the folders FIRST and SECOND, and says
+whether both give the same key. The key is written nowhere. It ends with 0
+where they give the same, with 99 where they do not, and with 6, 7 or 8 where
+one of them gives none.
+
+One old keeper that lies spoils a move, and nothing in the letters shows it.
+So before the old letters go, let T+2 old keepers cut, one more than a move
+takes, and let all new keepers weigh the same sub-letters twice, with two
+lists of old keepers that differ in one: FIRST has the letters of one list,
+SECOND those of the other. If both give the same key, and no more than one old
+keeper lied, the move is right. Against F liars take T+F+1 old keepers and F+1
+lists, each different from the first in one old keeper, always another, and
+check the tray of each beside the first. Nobody may cut anew for a list: a lie
+could be fitted to it. Or join the letters, and see that the key still signs
+right: that finds any lie.
+
+Then store the letters of the first list, and drop those of the others and the
+old ones. The letters of two lists have one stamp, and do not go together.
+";
+
+// What a command does that moves a key.
+fn say_move_help(command: usize) -> i32 {
+    if command == form::MOVE_CUT {
+        told(&MOVE_CUT)
+    } else if command == form::MOVE_WEIGH {
+        told(&MOVE_WEIGH)
+    } else {
+        told(&MOVE_CHECK)
+    }
+}
+
 // What one command does.
 pub fn say_help(command: usize) -> i32 {
     if command == form::CUT {
@@ -123,8 +202,10 @@ pub fn say_help(command: usize) -> i32 {
         told(&FETCH)
     } else if command == form::JOIN {
         told(&JOIN)
-    } else {
+    } else if command == form::COMPARE {
         told(&COMPARE)
+    } else {
+        say_move_help(command)
     }
 }
 
