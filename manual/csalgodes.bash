@@ -13,6 +13,9 @@ _csalgodes_names() { # COMMAND
     store | fetch) echo file file ;;
     join) echo folder file ;;
     compare) echo folder folder ;;
+    move-cut) echo file folder ;;
+    move-weigh) echo folder file ;;
+    move-check) echo folder folder ;;
     help) echo command ;;
     esac
 }
@@ -25,6 +28,9 @@ _csalgodes_options() { # COMMAND
     fetch) echo --order --key --keeper --replace --help ;;
     join) echo --order --key --stamp --length --replace --help ;;
     compare) echo --order --help ;;
+    move-cut) echo --from --order --key --length --stamp --keeper --help ;;
+    move-weigh) echo --from --order --key --length --stamp --keepers --keeper --replace --help ;;
+    move-check) echo --order --key --help ;;
     esac
 }
 
@@ -57,7 +63,9 @@ _csalgodes_look() {
         case $next:$word in
         number:*) next=any ;;
         any:--) next=name ;;
-        any:--order | any:--key | any:--stamp | any:--keeper | any:--length) given+="$word " next=number ;;
+        any:--order | any:--from | any:--key | any:--stamp | any:--keeper | any:--keepers | any:--length)
+            given+="$word " next=number
+            ;;
         any:-?*) given+="$word " ;;
         *) [ "$i" -gt "$COMP_CWORD" ] || names=$((names + 1)) ;;
         esac
@@ -69,7 +77,7 @@ _csalgodes_offer() { # WORD..
 }
 
 _csalgodes() {
-    local IFS=$' \t\n' commands=(cut show store fetch join compare)
+    local IFS=$' \t\n' commands=(cut show store fetch join compare move-cut move-weigh move-check)
     local command=${COMP_WORDS[1]-} typed=${COMP_WORDS[COMP_CWORD]} option left=() wanted=() kind names given
     COMPREPLY=()
     if [ "$COMP_CWORD" -eq 1 ]; then
