@@ -4,8 +4,9 @@
 
 use second::both::Both;
 use second::cases::{self, Tray};
-use second::damage::{exchange_slot, forge_word, set_word, slot, word};
+use second::damage::{self, exchange_slot, forge_word, slot, word};
 use second::desk::{Desk, Stored};
+use second::faults::Faults;
 use second::join::Joined;
 use second::letter::{Fault, Head, Letter, SHARES_IN_BLOCK};
 use second::order::{Order, LONGEST, SLOT};
@@ -37,12 +38,6 @@ fn keys<const COUNT: usize>(random: &Random) -> [u32; COUNT] {
         }
     }
     keys
-}
-
-/// The keepers of an order, mixed.
-fn keepers(order: Order, random: &Random) -> Vec<u32> {
-    let all = order.n as usize;
-    random.sample(all, all).into_iter().map(|index| index as u32 + 1).collect()
 }
 
 fn nothing(number: u32) -> Picked {
@@ -88,30 +83,12 @@ fn every_number_told_to_every_call() {
     both.tally.expect(12_150, &[0, 1]);
 }
 
-/// What is wrong with a call, as bits, and the number of each in the order in which the call judges.
-#[derive(Clone, Copy)]
-struct Faults<'a> {
-    bits: u32,
-    numbers: &'a [u32],
-}
-
-impl Faults<'_> {
-    fn has(self, number: u32) -> bool {
-        let at = self.numbers.iter().position(|&other| other == number);
-        self.bits >> at.expect("one of the call's numbers") & 1 == 1
-    }
-
-    fn first(self) -> u32 {
-        self.numbers.iter().copied().find(|&number| self.has(number)).unwrap_or(0)
-    }
-
-    /// Each way to have some of these, several times over. Where 1 is among them, the key is no key.
-    fn each(numbers: &[u32], times: u32, mut call: impl FnMut(Faults, Told), random: &Random) {
-        for bits in (0..1 << numbers.len()).cycle().take((times as usize) << numbers.len()) {
-            let (faults, told) = (Faults { bits, numbers }, cases::told(random));
-            let no_key = *random.choose(&[256, u32::MAX, told.key + 256]);
-            call(faults, if faults.has(1) { Told { key: no_key, ..told } } else { told });
-        }
+/// Makes a call for each way to have some of these faults, several times over. With 1 the key is no key.
+fn each(numbers: &[u32], times: usize, mut call: impl FnMut(Faults, Told), random: &Random) {
+    for faults in Faults::each(numbers, times) {
+        let told = cases::told(random);
+        let no_key = *random.choose(&[256, u32::MAX, told.key + 256]);
+        call(faults, if faults.has(1) { Told { key: no_key, ..told } } else { told });
     }
 }
 
@@ -134,7 +111,7 @@ fn refusals_of_the_cut_in_their_order() {
         let number = both.cut(told, stamp, &random.bytes(length), &words, &mut tray);
         assert_eq!(number, faults.first());
     };
-    Faults::each(&[1, 2, 3, 4, 5], 20, call, random);
+    each(&[1, 2, 3, 4, 5], 20, call, random);
     both.tally.expect(640, &[0, 1, 2, 3, 4, 5]);
 }
 
@@ -152,7 +129,7 @@ fn refusals_of_the_join_in_their_order() {
         let joined = both.join(told, stamp, length, &tray.bytes, &mut room);
         assert_eq!(joined.number, faults.first());
     };
-    Faults::each(&[1, 2, 3, 4, 6], 20, call, random);
+    each(&[1, 2, 3, 4, 6], 20, call, random);
     both.tally.expect(640, &[0, 1, 2, 3, 4, 6]);
 }
 
@@ -169,7 +146,7 @@ fn refusals_of_the_pick_in_their_order() {
         }
         assert_eq!(both.pick(told, &tray.bytes).number, faults.first());
     };
-    Faults::each(&[1, 4, 6], 60, call, random);
+    each(&[1, 4, 6], 60, call, random);
     both.tally.expect(480, &[0, 1, 4, 6]);
 }
 
@@ -196,7 +173,7 @@ fn refusals_of_the_desk_in_their_order() {
         let stored = both.store(desk, &mut held, &letter);
         assert_eq!(stored, Stored { number: faults.first(), place: 0 });
     };
-    Faults::each(&[1, 4, 12, 16, 14], 20, call, random);
+    each(&[1, 4, 12, 16, 14], 20, call, random);
     both.tally.expect(640, &[0, 1, 4, 12, 14, 16]);
 }
 
@@ -214,7 +191,7 @@ fn refusals_of_the_fetch_in_their_order() {
         }
         assert_eq!(both.fetch(desk, &held), faults.first());
     };
-    Faults::each(&[1, 4, 17], 60, call, random);
+    each(&[1, 4, 17], 60, call, random);
     both.tally.expect(480, &[0, 1, 4, 17]);
 }
 
@@ -368,7 +345,7 @@ fn letters_of_two_keys_in_one_tray() {
                 0 => under_key(second, &one),
                 _ => Tray::cut(Told::new(order, second), stamp, one.secret.len(), random),
             };
-            let mixed = keepers(order, random);
+            let mixed = cases::keepers(order, random);
             let (own, others) = mixed.split_at(count);
             let mut tray = one.bytes.clone();
             others.iter().for_each(|&keeper| exchange_slot(&mut tray, &other.bytes, keeper));
@@ -442,7 +419,7 @@ fn groups_of_two_keys() {
             let keys: [u32; 3] = keys(random);
             let [first, second, third] = keys.map(|key| Told::new(order, key));
             let stamps = *random.choose(&[[5, 5], [5, 6], [6, 5]]);
-            let mixed = keepers(order, random);
+            let mixed = cases::keepers(order, random);
             let (own, rest) = mixed.split_at(size(order, one));
             let others = &rest[..size(order, other)];
             let one = Cut::giving(one, first, stamps[0], own, random);
@@ -589,24 +566,17 @@ fn another_key_at_the_desk_whatever_is_held() {
 /// Spoils a letter of another key than the desk's, and says how it then reads.
 fn spoil(slot: &mut [u8], own: u32, round: usize, random: &Random) -> Stored {
     let place = random.below(4);
-    let stored = |number, place| Stored { number, place: place as u32 };
-    match round % 7 {
-        0 => set_word(slot, place, random.below(256), random.between(257, 65_535)),
-        1 => set_word(slot, place, 254, (word(slot, place, 254) + 1) % 257),
-        2 => forge_word(slot, place, random.below(2), random.between(2, 80)),
-        3 => forge_word(slot, place, *random.choose(&[12, 14, 15]), random.between(4, 256)),
-        4 => forge_word(slot, place, 13, 256),
-        5 => forge_word(slot, place, 13, own),
-        _ => forge_word(slot, 3, 253, random.between(1, 256)),
-    }
-    match round % 7 {
-        0 => stored(9, place),
-        1 => stored(10, place),
-        2 => stored(11, place),
-        5 => stored(12, place.max(1)),
-        6 => stored(13, 0),
-        _ => stored(12, place),
-    }
+    let mut forge = |word, value, at: usize| {
+        forge_word(slot, place, word, value);
+        Fault { number: 12, place: at as u32 }
+    };
+    let Fault { number, place } = match round % 8 {
+        0 => forge(13, 256, place),
+        1 => forge(13, own, place.max(1)),
+        2 => forge(*random.choose(&[14, 15]), random.between(1, 256), place),
+        kind => damage::spoil(slot, 6 + kind as u32, place, random),
+    };
+    Stored { number, place }
 }
 
 /// 9 to 13 go before 16: what is not a good letter is nobody's.

@@ -1,10 +1,13 @@
 //! NULL where a part is empty: each call answers as the second program does, which knows no pointers.
 
+use second::both::Both;
 use second::cases::{self, Tray, NO_KEYS};
 use second::compare::{compare, Difference};
 use second::cut::cut;
 use second::desk::Desk;
 use second::join::join;
+use second::moves::{tell_unlawfully, Cutting, Weighing};
+use second::moving::Move;
 use second::order::{Order, SLOT};
 use second::peer::Peer;
 use second::pick::pick;
@@ -142,4 +145,45 @@ fn each_part_of_a_comparison() {
         }
     }
     tally.expect(10_368, &[0, 1, 4, 18]);
+}
+
+/// What to tell: what fits, an order or a key that is none, no length, and no stamp.
+fn tellings(told: Move, random: &Random) -> [Move; 4] {
+    let mut unlawful = told;
+    tell_unlawfully(&mut unlawful, random);
+    [told, unlawful, Move { length: 0, ..told }, Move { stamp: 0, ..told }]
+}
+
+#[test]
+fn each_part_of_a_cutting() {
+    let (random, mut both) = (&Random::new(126), Both::over(Peer::with_null()));
+    for new in Order::all() {
+        let whole = Cutting::to(new, LENGTH, random);
+        for told in tellings(whole.told, random) {
+            for empty in 0..8 {
+                let letter = lent(&whole.letter, empty, 0).to_vec();
+                let words = lent(&whole.words, empty, 1).to_vec();
+                let tray = lent(&whole.tray, empty, 2).to_vec();
+                Cutting { told, letter, words, tray, ..whole }.ask(&mut both);
+            }
+        }
+    }
+    both.tally.expect(5184, &[0, 1, 2, 3, 4]);
+}
+
+#[test]
+fn each_part_of_a_weighing() {
+    let (random, mut both) = (&Random::new(127), Both::over(Peer::with_null()));
+    for old in Order::all() {
+        let whole = Weighing::from(old, LENGTH, random);
+        for told in tellings(whole.told, random) {
+            for empty in 0..8 {
+                let keepers = lent(&whole.keepers, empty, 0).to_vec();
+                let letters = lent(&whole.letters, empty, 1).to_vec();
+                let slot = lent(&whole.slot, empty, 2).to_vec();
+                Weighing { told, keepers, letters, slot, ..whole.clone() }.ask(&mut both);
+            }
+        }
+    }
+    both.tally.expect(5184, &[0, 1, 2, 3, 4]);
 }

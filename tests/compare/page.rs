@@ -2,14 +2,16 @@
 
 use second::block::{check, Words};
 use second::cut::cut;
-use second::damage::{exchange_slot, forge_word, lie, share, slot};
-use second::field::{multiply, reciprocal};
+use second::damage::{exchange_slot, forge_word, lie, share, slot, word};
+use second::field::{add, multiply, power, reciprocal};
 use second::join::{join, Joined};
 use second::letter::{Fault, Letter};
+use second::moving::{CutAgain, Move, Weighed};
 use second::order::{Order, SLOT};
 use second::pick::{pick, Picked};
 use second::report::report;
-use second::solve::subsets;
+use second::solve::{factors, subsets};
+use second::sub_letter::SubLetter;
 use second::told::Told;
 
 const TOLD: Told = Told { order: Order { t: 1, f: 1, n: 6 }, key: 0 };
@@ -250,4 +252,72 @@ fn the_report_of_groups_that_do_not_join() {
     let tray = two_groups([43, 143, 0, 86, 186, 0]);
     let written = report(&[&[1, 1, 6, 0], tray.as_slice()].concat());
     assert_eq!(String::from_utf8(written).as_deref(), Ok(text));
+}
+
+#[test]
+fn factors_to_zero() {
+    assert_eq!(factors(&[1, 2]), [2, 256]);
+    assert_eq!(factors(&[1, 2, 3]), [3, 254, 1]);
+    assert_eq!(factors(&[3, 1, 2]), [1, 3, 254]);
+    assert_eq!(factors(&[2, 3]), [3, 255]);
+}
+
+/// By its factors each set of 2 to 8 keepers carries 1 to 1, and x, x^2 and so on to 0.
+#[test]
+fn factors_of_every_set() {
+    for set in (2..=8).flat_map(|size| subsets(16, size)) {
+        let points: Vec<u32> = set.into_iter().map(|index| index as u32 + 1).collect();
+        let factors = factors(&points);
+        for degree in 0..points.len() as u32 {
+            let terms = points.iter().zip(&factors).map(|(&x, &c)| multiply(c, power(x, degree)));
+            assert_eq!(terms.fold(0, add), u32::from(degree == 0), "{points:?}");
+        }
+    }
+}
+
+/// The page's letters go to two keepers, under stamp 9.
+const MOVE: Move = Move {
+    old: TOLD.order,
+    new: Told { order: Order { t: 1, f: 0, n: 2 }, key: 0 },
+    length: 1,
+    stamp: 9,
+};
+
+/// What an old keeper cuts of the page's letters for two new ones.
+fn cut_again(keeper: u32, random: u16) -> Vec<u8> {
+    let (mut old, mut tray) = (page_tray(200, 100), vec![99; MOVE.new.order.tray()]);
+    let cut = MOVE.cut(keeper, slot(&mut old, keeper), &[random], &mut tray);
+    assert_eq!(cut, CutAgain { number: 0, place: 0 });
+    tray
+}
+
+/// Keepers 1 and 2 hold 43 and 143.
+#[test]
+fn the_words_of_sub_letters() {
+    assert_eq!(share_words(&mut cut_again(1, 10), 1..=2), [53, 63]);
+    assert_eq!(share_words(&mut cut_again(2, 21), 1..=2), [164, 185]);
+    let mut tray = cut_again(2, 21);
+    for new in 1..=2 {
+        let slot = slot(&mut tray, new);
+        let header: Vec<u32> = (0..16).map(|i| word(slot, 0, i)).collect();
+        assert_eq!(header, [82, 1, 1, 0, 2, new, 0, 0, 0, 9, 0, 1, 0, 0, 2, 0]);
+        assert!(slot[512..].iter().all(|&byte| byte == 0));
+        assert_eq!(SubLetter::read(slot).map(|sub| sub.from), Ok(Some(2)));
+    }
+}
+
+/// Two times 10 and 256 times 21 are 256, so the new tray is the cut of 200 with that random word.
+#[test]
+fn the_weighing_of_sub_letters() {
+    let (mut one, mut other) = (cut_again(1, 10), cut_again(2, 21));
+    let mut moved = vec![99; MOVE.new.order.tray()];
+    for new in 1..=2 {
+        let letters = [&*slot(&mut other, new), &*slot(&mut one, new)].concat();
+        let weighed = MOVE.weigh(&[1, 2], new, &letters, slot(&mut moved, new));
+        assert_eq!(weighed, Weighed { number: 0, letter: 0, place: 0 });
+    }
+    assert_eq!(share_words(&mut moved, 1..=2), [199, 198]);
+    let mut expected = vec![0; MOVE.new.order.tray()];
+    assert_eq!(cut(MOVE.new, 9, &[200], &[256], &mut expected), 0);
+    assert!(moved == expected);
 }

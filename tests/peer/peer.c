@@ -14,7 +14,7 @@ uint32_t inner_cut_words(uint32_t t, uint32_t f, uint32_t n, const uint16_t *con
 uint16_t inner_share_word(uint16_t constant, const uint16_t *coefficients, size_t count, uint16_t x);
 uint32_t inner_drawn(uint16_t draw);
 
-enum { NUMBERS = 6, PARTS = 3, RESULTS = 9, GUARD = 64, GUARD_BYTE = 0xa5, LARGEST = 1 << 18 };
+enum { NUMBERS = 10, PARTS = 3, RESULTS = 9, GUARD = 64, GUARD_BYTE = 0xa5, LARGEST = 1 << 18 };
 
 static struct {
     uint32_t call;
@@ -102,6 +102,25 @@ static void answer_compare(const uint32_t *number, const uint8_t *first, const u
     result[1] = r.count;
 }
 
+static void answer_move_cut(const uint32_t *number, const uint8_t *letter, const uint16_t *random,
+                            uint8_t *tray, const uint32_t *size) {
+    cs_move_cut_result r = cs_move_cut(number[0], number[1], number[2], number[3], number[4],
+                                       number[5], number[6], number[7], number[8], number[9],
+                                       letter, size[0], random, size[1] / 2, tray, size[2]);
+    result[0] = r.number;
+    result[1] = r.place;
+}
+
+static void answer_move_weigh(const uint32_t *number, const uint32_t *keepers,
+                              const uint8_t *letters, uint8_t *slot, const uint32_t *size) {
+    cs_move_weigh_result r = cs_move_weigh(number[0], number[1], number[2], number[3], number[4],
+                                           number[5], number[6], number[7], number[8], keepers,
+                                           size[0] / 4, number[9], letters, size[1], slot, size[2]);
+    result[0] = r.number;
+    result[1] = r.letter;
+    result[2] = r.place;
+}
+
 /* An empty part is NULL where the tests ask for that. */
 static uint8_t *part(int k) {
     return request.null && request.size[k] == 0 ? NULL : memory[k] + GUARD;
@@ -135,6 +154,8 @@ static int answer(void) {
                                      (uint16_t)number[1]);
         return 1;
     case 9: result[0] = inner_drawn((uint16_t)number[0]); return 1;
+    case 10: answer_move_cut(number, first, (const uint16_t *)second, third, size); return 1;
+    case 11: answer_move_weigh(number, (const uint32_t *)first, second, third, size); return 1;
     default: return 0;
     }
 }

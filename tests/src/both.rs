@@ -6,6 +6,7 @@ use crate::cut::cut;
 use crate::desk::{Desk, Stored};
 use crate::join::{join, Joined};
 use crate::letter::{Fault, Head, Letter};
+use crate::moving::{CutAgain, Move, Weighed};
 use crate::order::Order;
 use crate::peer::Peer;
 use crate::pick::{pick, Picked};
@@ -112,5 +113,37 @@ impl Both {
         assert!(expected == list, "{order:?}: not the same list");
         self.tally.add(compared.number);
         compared
+    }
+    pub fn move_cut(
+        &mut self,
+        told: Move,
+        keeper: u32,
+        letter: &[u8],
+        random: &[u16],
+        tray: &mut [u8],
+    ) -> CutAgain {
+        let mut second = tray.to_vec();
+        let cut = self.library.move_cut(told, keeper, letter, random, tray);
+        assert_eq!(told.cut(keeper, letter, random, &mut second), cut, "{told:?}, keeper {keeper}");
+        assert!(second == tray, "{told:?}, keeper {keeper}: not the same sub-letters");
+        self.tally.add(cut.number);
+        cut
+    }
+
+    pub fn move_weigh(
+        &mut self,
+        told: Move,
+        keepers: &[u32],
+        keeper: u32,
+        letters: &[u8],
+        slot: &mut [u8],
+    ) -> Weighed {
+        let mut second = slot.to_vec();
+        let weighed = self.library.move_weigh(told, keepers, keeper, letters, slot);
+        let expected = told.weigh(keepers, keeper, letters, &mut second);
+        assert_eq!(expected, weighed, "{told:?}, keepers {keepers:?} to {keeper}");
+        assert!(second == slot, "{told:?}, keepers {keepers:?} to {keeper}: not the same letter");
+        self.tally.add(weighed.number);
+        weighed
     }
 }

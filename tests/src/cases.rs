@@ -26,6 +26,33 @@ pub fn order(random: &Random) -> Order {
     *random.choose(&Order::all())
 }
 
+/// This order, made unlawful by one of its numbers.
+pub fn unlawful(order: Order, random: &Random) -> Order {
+    let Order { t, f, .. } = order;
+    let far = *random.choose(&FAR);
+    *random.choose(&[
+        Order { n: t + 4 * f, ..order },
+        Order { n: far, ..order },
+        Order { n: 0, ..order },
+        Order { f: t + 1, ..order },
+        Order { f: far, ..order },
+        Order { t: 0, ..order },
+        Order { t: 8, ..order },
+        Order { t: far, ..order },
+    ])
+}
+
+/// These in an order of their own.
+pub fn mixed(keepers: &[u32], random: &Random) -> Vec<u32> {
+    let order = random.sample(keepers.len(), keepers.len());
+    order.into_iter().map(|index| keepers[index]).collect()
+}
+
+/// The keepers of an order, mixed.
+pub fn keepers(order: Order, random: &Random) -> Vec<u32> {
+    mixed(&(1..=order.n).collect::<Vec<_>>(), random)
+}
+
 pub fn key(random: &Random) -> u32 {
     match random.below(3) {
         0 => random.between(0, 255),

@@ -48,7 +48,7 @@ fn letters<'a>(
 }
 
 /// A keeper's share words, of constants that may be 256.
-fn shares(t: usize, constants: &[u32], random: &[u16], keeper: u32) -> Vec<u32> {
+pub fn shares(t: usize, constants: &[u32], random: &[u16], keeper: u32) -> Vec<u32> {
     let share = |(&constant, higher): (&u32, &[u16])| {
         let mut coefficients = vec![constant];
         coefficients.extend(higher.iter().map(|&word| u32::from(word)));

@@ -1,11 +1,18 @@
-//! The letter: its head and share words, its one slot, and the reading of any slot.
+//! The letter: its head and share words, its one slot, and the reading of any slot. A sub-letter has the same
+//! layout, so both are written and read here.
 
 use crate::block::{self, Words, BLOCK, WORDS};
 use crate::order::{lawful_length, Order, SLOT};
 use crate::told::Told;
 
-const MARK: u32 = 81;
+/// The marks of a letter and of a sub-letter.
+pub const MARK: u32 = 81;
+pub const SUB_MARK: u32 = 82;
+
 const EDITION: u32 = 1;
+
+/// The word that is 0 in a letter, and in a sub-letter the keeper that it is from.
+pub const FROM: usize = 14;
 
 /// Where the share words of a block begin, and how many there are.
 pub const SHARES: usize = 16;
@@ -37,9 +44,9 @@ impl Head {
         (self.length as usize).div_ceil(SHARES_IN_BLOCK)
     }
 
-    fn write(self, place: u32, words: &mut Words) {
+    fn write(self, mark: u32, place: u32, words: &mut Words) {
         let Head { told: Told { order, key }, keeper, stamp, length } = self;
-        let front = [MARK, EDITION, order.t, order.f, order.n, keeper];
+        let front = [mark, EDITION, order.t, order.f, order.n, keeper];
         let stamp = stamp.to_be_bytes().map(u32::from);
         let back = [length / 256, length % 256, place, key];
         words[..6].copy_from_slice(&front);
@@ -65,10 +72,16 @@ impl Head {
 impl Letter {
     /// The one slot of this letter.
     pub fn slot(&self) -> Vec<u8> {
+        self.slot_of(MARK, 0)
+    }
+
+    /// The slot of its head and share words with this mark, and with this keeper as the one it is from.
+    pub fn slot_of(&self, mark: u32, from: u32) -> Vec<u8> {
         let mut slot = Vec::with_capacity(SLOT);
         for (place, shares) in self.shares.chunks(SHARES_IN_BLOCK).enumerate() {
             let mut words = [0; WORDS];
-            self.head.write(place as u32, &mut words);
+            self.head.write(mark, place as u32, &mut words);
+            words[FROM] = from;
             words[SHARES..SHARES + shares.len()].copy_from_slice(shares);
             block::seal(&mut words);
             slot.extend(block::bytes(&words));
@@ -78,12 +91,17 @@ impl Letter {
     }
 
     pub fn read(slot: &[u8]) -> Result<Letter, Fault> {
+        Letter::read_with(MARK, slot)
+    }
+
+    /// Reads what has this mark. Whom a sub-letter is from is not looked at.
+    pub fn read_with(mark: u32, slot: &[u8]) -> Result<Letter, Fault> {
         if slot.len() != SLOT {
             return Err(Fault { number: 4, place: 0 });
         }
-        let head = read_block(slot, 0, None)?;
+        let head = read_block(mark, slot, 0, None)?;
         for place in 1..head.blocks() {
-            read_block(slot, place, Some(head))?;
+            read_block(mark, slot, place, Some(head))?;
         }
         let (letter, rest) = slot.split_at(head.blocks() * BLOCK);
         let mut shares: Vec<u32> = letter
@@ -99,7 +117,7 @@ impl Letter {
 }
 
 /// The head of the block at this place, which must be the first block's where there is one.
-fn read_block(slot: &[u8], place: usize, first: Option<Head>) -> Result<Head, Fault> {
+fn read_block(mark: u32, slot: &[u8], place: usize, first: Option<Head>) -> Result<Head, Fault> {
     let words = block::words(&slot[place * BLOCK..][..BLOCK]);
     let place = place as u32;
     let fault = |number| Err(Fault { number, place });
@@ -109,10 +127,11 @@ fn read_block(slot: &[u8], place: usize, first: Option<Head>) -> Result<Head, Fa
     if !block::checked(&words) {
         return fault(10);
     }
-    if words[0] != MARK || words[1] != EDITION {
+    if words[0] != mark || words[1] != EDITION {
         return fault(11);
     }
-    let settled = words[12] == place && words[14..SHARES].iter().all(|&word| word == 0);
+    let unused = words[15] == 0 && (words[FROM] == 0 || mark == SUB_MARK);
+    let settled = words[12] == place && unused;
     match Head::said_by(&words) {
         Some(head) if settled && first.is_none_or(|first| first == head) => Ok(head),
         _ => fault(12),

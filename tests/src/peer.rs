@@ -3,7 +3,7 @@
 //! The library is compiled for x86-64 alone. A process lets the same tests run beside it on any
 //! machine that can run it at all, emulated or not, and a call that crashed would be seen as one.
 //!
-//! A request is the call's number, whether empty parts are lent as NULL, six numbers and the sizes of
+//! A request is the call's number, whether empty parts are lent as NULL, ten numbers and the sizes of
 //! three parts, then the parts. The reply is nine numbers, then each part as the call left it,
 //! between guards. `peer.c` is the other end.
 
@@ -13,11 +13,12 @@ use std::process::{Child, ChildStdin, ChildStdout, Command, Stdio};
 use crate::compare::{Compared, Difference};
 use crate::desk::{Desk, Stored};
 use crate::join::Joined;
+use crate::moving::{CutAgain, Move, Weighed};
 use crate::order::Order;
 use crate::pick::Picked;
 use crate::told::Told;
 
-const NUMBERS: usize = 6;
+const NUMBERS: usize = 10;
 const PARTS: usize = 3;
 const RESULTS: usize = 9;
 const GUARD: usize = 64;
@@ -234,6 +235,40 @@ impl Peer {
         let [number, count, ..] = numbers;
         Compared { number, count }
     }
+
+    pub fn move_cut(
+        &mut self,
+        told: Move,
+        keeper: u32,
+        letter: &[u8],
+        random: &[u16],
+        tray: &mut [u8],
+    ) -> CutAgain {
+        let random = word_bytes(random);
+        let told = numbers_of_move(told, keeper);
+        let Reply { numbers, left } = self.call(10, &told, &[letter, &random, tray]);
+        assert!(left[0] == letter && left[1] == random, "both are only lent to be read");
+        tray.copy_from_slice(&left[2]);
+        let [number, place, ..] = numbers;
+        CutAgain { number, place }
+    }
+
+    pub fn move_weigh(
+        &mut self,
+        told: Move,
+        keepers: &[u32],
+        keeper: u32,
+        letters: &[u8],
+        slot: &mut [u8],
+    ) -> Weighed {
+        let keepers: Vec<u8> = keepers.iter().flat_map(|keeper| keeper.to_le_bytes()).collect();
+        let told = numbers_of_move(told, keeper);
+        let Reply { numbers, left } = self.call(11, &told, &[&keepers, letters, slot]);
+        assert!(left[0] == keepers && left[1] == letters, "both are only lent to be read");
+        slot.copy_from_slice(&left[2]);
+        let [number, letter, place, ..] = numbers;
+        Weighed { number, letter, place }
+    }
 }
 
 /// The bytes of words, as C has them on x86-64.
@@ -257,6 +292,12 @@ fn place_of(bytes: &[u8]) -> Difference {
 fn numbers<const REST: usize>(told: Told, rest: [u32; REST]) -> Vec<u32> {
     let Told { order: Order { t, f, n }, key } = told;
     [t, f, n, key].into_iter().chain(rest).collect()
+}
+
+/// What a call of a move is told, and the keeper that calls.
+fn numbers_of_move(told: Move, keeper: u32) -> Vec<u32> {
+    let Move { old: Order { t, f, n }, new, length, stamp } = told;
+    [t, f, n].into_iter().chain(numbers(new, [length, stamp, keeper])).collect()
 }
 
 impl Drop for Peer {

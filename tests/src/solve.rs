@@ -31,6 +31,16 @@ pub fn solve(points: &[u32], values: &[u32]) -> Vec<u32> {
     rows[..size].iter().map(|row| row[size]).collect()
 }
 
+/// The factors that carry values at these points to 0: each is what the polynomial has there that is 1 at its
+/// own point and 0 at the others.
+pub fn factors(points: &[u32]) -> Vec<u32> {
+    let factor = |own: &u32| {
+        let values: Vec<u32> = points.iter().map(|point| u32::from(point == own)).collect();
+        solve(points, &values)[0]
+    };
+    points.iter().map(factor).collect()
+}
+
 /// Takes so much of row k away from another that its entry in column k is, or counts as, 0.
 fn take_away(rows: &mut Rows, from: usize, k: usize, columns: std::ops::RangeInclusive<usize>) {
     let times = rows[from][k];

@@ -21,4 +21,11 @@ impl Tally {
         let answered: Vec<u32> = self.counts.keys().copied().collect();
         assert_eq!(answered, numbers, "the answers reached are not the ones meant");
     }
+
+    /// Holds each number that was answered to at least so many times.
+    pub fn each(&self, times: usize) {
+        for (number, &count) in &self.counts {
+            assert!(count >= times, "{number} was answered {count} times, and not {times}");
+        }
+    }
 }
