@@ -7,7 +7,6 @@ pub mod Fraction
 pub mod Interpolate
 pub mod Lagrange
 pub mod Mixed
-pub mod OneMore
 pub mod OnePolynomial
 pub mod Points
 pub mod Poly

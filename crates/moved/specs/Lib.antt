@@ -12,14 +12,13 @@ pub mod OneDraws
 pub mod HandedSecrecy
 -- "Any two results allowed by one promise are proved the same"; "a refused call changes no byte lent to it"; "Equal meaning, equal bytes"
 pub mod SameMoves
+pub mod MoveCallsSame
 -- what all new keepers weigh, whatever words the old keepers cut again
 pub mod MovedTray
 -- what one lying old keeper can do
 pub mod OneLiar
--- the check of a move by two sets of old keepers
-pub mod TwoSets
--- what can still be seen of a spoiled move
-pub mod Spoiled
+-- the check of a move by joining the old letters and the new ones
+pub mod Checked
 -- what the cutting promises of a good old letter
 pub mod CutAgain
 -- what the weighing promises of one move
