@@ -31,6 +31,12 @@
  *             of one the others are lies. Cuts of keys with different numbers may have the same stamp.
  *    desk     where a keeper keeps his letter of one key: one slot, all zeros at first, changed by cs_store
  *             alone. Who keeps letters of several keys has a desk for each.
+ *    move     a key comes to new keepers, of a new order, and nobody joins it: some of the old keepers cut
+ *             their letters again, and each new keeper weighs what they cut for it.
+ *
+ * What one old keeper cuts for one new keeper is a sub-letter. It lies in a slot as a letter does, and has the
+ * old keeper's number beside all that a letter has. It is no letter: cs_read, cs_store and cs_move_cut answer
+ * 11 to it, and a pick and a join set it aside.
  *
  * For C and C++ on x86-64 Linux. A program is built after library/build by the first line, after
  * library/install by the second:
@@ -46,7 +52,8 @@
  *
  * No call allocates memory, or remembers anything for the next one. Threads may call at once, if none
  * writes what another is lent. A call takes less than 64 KB of stack, and does not wipe it: after a
- * cut, a pick or a join, words of the secret stay there until something overwrites them.
+ * cut, a pick or a join, words of the secret stay there until something overwrites them, and after a call of
+ * the move words of letters do.
  */
 #ifndef CSALGODES_H
 #define CSALGODES_H
@@ -63,10 +70,10 @@ extern "C" {
  * name has both, so that a program runs with the calls that it was built for or does not start.
  */
 #define CSALGODES_VERSION_MAJOR 0
-#define CSALGODES_VERSION_MINOR 5
+#define CSALGODES_VERSION_MINOR 6
 #define CSALGODES_VERSION_PATCH 0
 
-/* As one number, to be compared: 0.5.0 is 500, and 1.2.3 would be 10203. */
+/* As one number, to be compared: 0.6.0 is 600, and 1.2.3 would be 10203. */
 #define CSALGODES_VERSION \
     (CSALGODES_VERSION_MAJOR * 10000 + CSALGODES_VERSION_MINOR * 100 + CSALGODES_VERSION_PATCH)
 
@@ -89,8 +96,8 @@ enum {
  */
 enum {
     CS_DONE = 0,
-    CS_ORDER_UNLAWFUL = 1,      /* the order is not lawful, the key's number is above 255, or the desk's
-                                   keeper number is outside 1..n */
+    CS_ORDER_UNLAWFUL = 1,      /* an order is not lawful, the key's number is above 255, or the number of a
+                                   keeper that is told is outside 1..n */
     CS_LENGTH_OUT_OF_RANGE = 2, /* the secret's length is outside 1..952 */
     CS_STAMP_ZERO = 3,          /* the stamp is 0 */
     CS_WRONG_SIZE = 4,          /* a lent part has the wrong length */
@@ -107,9 +114,13 @@ enum {
     CS_END_NOT_ZERO = 13,       /* bytes or share words past the end aren't zero */
     CS_OLDER = 14,              /* older than the letter held */
     CS_SAME_STAMP = 15,         /* the same stamp as the letter held, other bytes */
-    CS_OTHER_DESK = 16,         /* a good letter, but not of this desk's order, key and keeper */
+    CS_OTHER_DESK = 16,         /* a good letter, but not of this desk's order, key and keeper; in a move, a
+                                   good letter or sub-letter, but not of what is told */
     CS_NOTHING_HELD = 17,       /* nothing good of this desk's order, key and keeper is held */
-    CS_LIST_TOO_SHORT = 18      /* the list lent has fewer places than there are differences */
+    CS_LIST_TOO_SHORT = 18,     /* the list lent has fewer places than there are differences */
+    CS_OLD_KEEPERS_WRONG = 19,  /* an old keeper is told twice; or its sub-letter is missing or there twice,
+                                   is of one not told, or names several in its blocks */
+    CS_STAMP_NOT_ABOVE = 20     /* the stamp is not above that of the old letter */
 };
 
 /* What a slot reads as. */
@@ -268,6 +279,68 @@ cs_compare_result cs_compare(uint32_t t, uint32_t f, uint32_t n,
                              const uint8_t *first, size_t first_length,
                              const uint8_t *second, size_t second_length,
                              cs_difference *list, size_t list_count);
+
+/* What became of an old keeper's letter. */
+typedef struct {
+    uint32_t number; /* 0, 1, 2, 3, 4, 5, 9..13, 16 or 20 */
+    uint32_t place;  /* of 9..12: the place of the first faulty block, from 0; else 0 */
+} cs_move_cut_result;
+
+/*
+ * The first half of a move, once at each of exactly old_t+1 old keepers: cuts its letter again. Of each share
+ * word the letter has, it makes new ones as cs_cut does of each byte of a secret, under the new order t, f and
+ * n. New keeper x's sub-letter goes to slot x. It has the new order and stamp; the key's number and the
+ * length stay, and keeper is the old keeper's number. All that cut for one move are told the same but for
+ * their own number.
+ *
+ * The random words are drawn as for cs_cut: nobody may be able to guess them, and none may be used again, not
+ * at another old keeper, not for another move, not in a cut. Each sub-letter goes to its new keeper alone:
+ * more than t of one tray are as good as the letter.
+ *
+ * It is judged in this order: 1, 2, 3, 4, 5, the letter's own 9..13, 16 where it is of another old order, key,
+ * length or keeper, 20 where its stamp is not less than the one told. The old stamp is not told.
+ *
+ * Lent: the letter, 2048 bytes; exactly t random words for each byte of the length; the tray, n*2048 bytes.
+ * Writes: the whole tray where the number is 0, else nothing.
+ */
+cs_move_cut_result cs_move_cut(uint32_t old_t, uint32_t old_f, uint32_t old_n,
+                               uint32_t t, uint32_t f, uint32_t n,
+                               uint32_t key, uint32_t length, uint32_t stamp, uint32_t keeper,
+                               const uint8_t *letter, size_t letter_length,
+                               const uint16_t *random, size_t random_count,
+                               uint8_t *tray, size_t tray_length);
+
+/* What became of a new keeper's sub-letters. */
+typedef struct {
+    uint32_t number; /* 0, 1, 2, 3, 4, 9..13, 16 or 19 */
+    uint32_t letter; /* of 9..13 and 16: which sub-letter, from 0; else 0 */
+    uint32_t place;  /* of 9..12: the place of its first faulty block, from 0; else 0 */
+} cs_move_weigh_result;
+
+/*
+ * The second half of a move, at each new keeper: makes its letter of the sub-letters that it was sent, one of
+ * each of the old_t+1 old keepers. All new keepers are told the same but for keeper, which is their own
+ * number, and all weigh sub-letters of the same old keepers. Where the old letters are of one cut, the new
+ * ones are just what cs_cut writes of the same secret, with some random words.
+ *
+ * One lying old keeper spoils a move, and the new letters do not show it: they are good, and join to another
+ * secret. Join the old letters and the new ones, and compare what they give, before the old ones go. Then let
+ * them go: old letters stay as good as they were.
+ *
+ * It is judged in this order: 1, 2, 3, 4, the 9..13 of the first sub-letter that has one, 16 of the first that
+ * is of another new order, key, length, stamp or keeper, 19. 4 is also for another count of old keepers
+ * than old_t+1.
+ *
+ * Lent: the numbers of the old keepers, in any order; their sub-letters, 2048 bytes each, end to end in any
+ * order; the slot, 2048 bytes.
+ * Writes: the letter to all of the slot where the number is 0, else nothing.
+ */
+cs_move_weigh_result cs_move_weigh(uint32_t old_t, uint32_t old_f, uint32_t old_n,
+                                   uint32_t t, uint32_t f, uint32_t n,
+                                   uint32_t key, uint32_t length, uint32_t stamp,
+                                   const uint32_t *keepers, size_t keepers_count, uint32_t keeper,
+                                   const uint8_t *letters, size_t letters_length,
+                                   uint8_t *slot, size_t slot_length);
 
 #ifdef __cplusplus
 }

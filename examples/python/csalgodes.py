@@ -56,7 +56,7 @@ _words = [POINTER(c_uint16), c_size_t]
 _places = [POINTER(_Place), c_size_t]
 
 # by the name that says which calls it has: one with other calls has another
-_library = CDLL("libcsalgodes.so.0.5")
+_library = CDLL("libcsalgodes.so.0.6")
 _library.cs_cut.argtypes = [c_uint32] * 5 + _read + _words + _written
 _library.cs_cut.restype = c_uint32
 _library.cs_pick.argtypes = [c_uint32] * 4 + _read

@@ -222,7 +222,7 @@ pub fn say_version() -> i32 {
     if os::arg_count() > 2 {
         return too_many(2);
     }
-    told(b"csalgodes 0.5.0\n")
+    told(b"csalgodes 0.6.0\n")
 }
 
 // What is said where there is no word at all.
