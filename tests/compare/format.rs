@@ -101,7 +101,7 @@ fn all_numbers_in_their_order() {
     let page = page();
     let rows = table(&page, "| number | answered exactly when | by |");
     let found: Vec<u32> = rows.iter().map(|row| number(row[0])).collect();
-    assert_eq!(found, (0..=18).collect::<Vec<_>>());
+    assert_eq!(found, (0..=20).collect::<Vec<_>>());
 }
 
 #[test]
