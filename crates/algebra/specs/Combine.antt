@@ -16,6 +16,7 @@ use Rattle.algebra.specs.Poly.{eval}
 use Rattle.algebra.specs.Ring.{add-comm, add-assoc}
 use Rattle.algebra.specs.Total.{total}
 
+-- of the first k places
 unfoldable pub combine : Ops → List ℕ → List ℕ → ℕ → ℕ
 combine O ys fs zero = 0
 combine O ys fs (suc k) = O .add (combine O ys fs k) (O .mul (getD ys k 0) (getD fs k 0))

@@ -13,9 +13,10 @@ abbrev pub asMove : ℕ → ℕ → ℕ → ℕ → ℕ → ℕ → ℕ → ℕ 
 asMove old-t old-f old-n t f n key length stamp =
     record { old = orderTold old-t old-f old-n; told = asTold t f n key; stamp = stamp; length = length }
 
--- C's structs, as the move's own
+-- C's struct, as the cutting's
 abbrev pub cutAs : MoveCutResult → Cutting
 cutAs r = record { number = r .number; place = r .place }
 
+-- C's struct, as the weighing's
 abbrev pub weighedAs : MoveWeighResult → Weighing
 weighedAs r = record { number = r .number; letter = r .letter; place = r .place }

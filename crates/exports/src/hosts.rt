@@ -10,12 +10,14 @@ use moving::cutting::cut;
 use moving::terms::Move;
 use weighing::weigh;
 
+// What the cutting answers: the number, and the place of a fault in the letter.
 #[repr(C)]
 pub struct MoveCutResult {
     pub number: u32,
     pub place: u32,
 }
 
+// What the weighing answers: the number, which sub-letter it is of, and the place of a fault there.
 #[repr(C)]
 pub struct MoveWeighResult {
     pub number: u32,

@@ -26,6 +26,7 @@ use Rattle.format.specs.SlotWords.{sharesAt, length-block-words, length-
 use Rattle.format.specs.Reading.{blockWords, allShares, sharesOf, endsInZeros, readAs, readOf}
 use Rattle.format.specs.GoodSlot.{GoodSlot, good-slot}
 
+-- a slot that is as written, of what it gives
 pub record WrittenAs (mark from : ℕ) (slot : List ℕ) (h : Head) : Type 0 where
   pub lawful : lawfulHead h ≡ true
   pub size : length (sharesOf slot (h .length)) ≡ h .length

@@ -27,6 +27,7 @@ use Rattle.format.specs.ShareLaws.{pieces-shares, below-block-shares}
 use Rattle.format.specs.Reading.{blockWords, letterBlockNumber, allShares, sharesOf, endsInZeros, readAs}
 use Rattle.format.specs.GoodSlot.{slot-good}
 
+-- a slot as written, with a mark and a number in word 14: it reads as good, and gives back what it was written from
 pub record ReadsAs (mark most from : ℕ) (h : Head) (shares : List ℕ) : Type 0 where
   pub size : length (slotBytes mark from h shares) ≡ 2048
   pub bytes : Below 256 (slotBytes mark from h shares)

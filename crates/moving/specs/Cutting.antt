@@ -56,10 +56,11 @@ abbrev pub oldLetter : Move → ℕ → Reading → ℕ
 oldLetter m keeper (Good h) = oldNumber m keeper h
 oldLetter m keeper (Bad number place) = number
 
--- the number of a cutting, and the place of a fault in the letter
+-- the number of a cutting
 unfoldable pub moveCutNumber : Move → ℕ → List ℕ → List ℕ → List ℕ → ℕ
 moveCutNumber m keeper letter random tray = firstOf (cutRefusal m keeper letter random tray) (oldLetter m keeper (readOf letter))
 
+-- the place of a fault in the letter; 0 where the letter is not looked at
 unfoldable pub moveCutPlace : Move → ℕ → List ℕ → List ℕ → List ℕ → ℕ
 moveCutPlace m keeper letter random tray = cond (eqb (cutRefusal m keeper letter random tray) 0) (placeOf (readOf letter)) 0
 
