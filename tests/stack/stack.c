@@ -17,7 +17,7 @@ void *mmap(void *at, size_t size, int protection, int flags, int file, long offs
 int mprotect(void *at, size_t size, int protection);
 
 enum { SLOT = 2048, N = 16, TRAY = N * SLOT, MOST_T = 7, LONGEST = 952 };
-enum { KEY = 255, KEEPER = 1, STAMP = 2, TRIES = 100 };
+enum { KEY = 255, KEEPER = 1, STAMP = 2, MOVED_STAMP = 3, TRIES = 100 };
 
 /* The header's limit, and room to see by how much a call passes it. */
 enum { LIMIT = 64 * 1024, GROUND = 4 * LIMIT };
@@ -30,6 +30,7 @@ enum { NO_ACCESS = 0, READ_AND_WRITE = 3, SHARED_AND_OF_NO_FILE = 0x21 };
  * A call and what it is lent, which comes of two cuts with n=16 and 952 bytes, the most there can be. Where
  * there are more groups, each has two cuts of its own: of g groups, keeper x is in number (x-1) mod g, and
  * the stamps of number k are by k greater than those of number 0. A set of keepers has keeper x as bit x-1.
+ * A move is from an order to the same order.
  */
 typedef struct {
     const char *call, *input;
@@ -56,6 +57,8 @@ static measurement now;
 static struct {
     uint8_t guard[LIMIT], ground[GROUND];
     uint8_t tray[TRAY], cut[TRAY], other[TRAY], secret[LONGEST], room[LONGEST];
+    uint8_t sub_letters[(MOST_T + 1) * SLOT];
+    uint32_t old_keepers[MOST_T + 1];
     uint16_t random[MOST_T * LONGEST];
     cs_difference list[CS_MOST_DIFFERENCES];
     uint8_t paint;
@@ -99,6 +102,23 @@ static uint32_t run_compare(void) {
     return r.number;
 }
 
+static uint32_t move_cut(uint32_t keeper, uint8_t *tray) {
+    cs_move_cut_result r = cs_move_cut(now.t, now.f, N, now.t, now.f, N, KEY, LONGEST, MOVED_STAMP,
+                                       keeper, common->tray + (keeper - 1) * SLOT, SLOT,
+                                       common->random, now.t * LONGEST, tray, TRAY);
+    return r.number;
+}
+
+static uint32_t run_move_cut(void) { return move_cut(KEEPER, common->other); }
+
+static uint32_t run_move_weigh(void) {
+    size_t count = now.t + 1;
+    cs_move_weigh_result r = cs_move_weigh(now.t, now.f, N, now.t, now.f, N, KEY, LONGEST,
+                                           MOVED_STAMP, common->old_keepers, count, KEEPER,
+                                           common->sub_letters, count * SLOT, common->other, SLOT);
+    return r.number;
+}
+
 /* The library's code is for x86-64 wherever it runs, so this can be. */
 static void run(void) {
     uint32_t number;
@@ -133,8 +153,18 @@ static void lay_group(uint32_t g) {
     for (uint32_t k = g; k < N; k += now.more + 1) lay_slot(k);
 }
 
+/* The last keepers are the old ones, and cut in turn. */
+static void lay_sub_letters(void) {
+    for (uint32_t k = 0; k <= now.t; k++) {
+        common->old_keepers[k] = N - k;
+        if (move_cut(N - k, common->cut) != 0) _exit(1);
+        for (size_t i = 0; i < SLOT; i++) common->sub_letters[k * SLOT + i] = common->cut[i];
+    }
+}
+
 static void lay(void) {
     for (uint32_t g = 0; g <= now.more; g++) lay_group(g);
+    if (now.run == run_move_weigh) lay_sub_letters();
     for (size_t i = 0; i < GROUND; i++) common->ground[i] = common->paint;
 }
 
@@ -182,7 +212,7 @@ static int within_limit(outcome o) { return o.first > 0 && larger(o.first, o.lat
 
 /* Whether all is as it should be. */
 static int tell(const measurement *m, outcome o) {
-    printf("%-7s  %-58s  %6zu  %6zu\n", m->call, m->input, o.first, o.later);
+    printf("%-10s  %-58s  %6zu  %6zu\n", m->call, m->input, o.first, o.later);
     if (o.first == 0) printf("^ could not be made, or crashed\n");
     else if (!within_limit(o)) printf("^ takes %d bytes or more\n", LIMIT);
     else if (o.number != m->number) printf("^ answered %u and not %u\n", o.number, m->number);
@@ -211,6 +241,8 @@ static const measurement chosen[] = {
     {"join", "t=3 f=3, 3 lie in the last word", run_join, .t = 3, .f = 3, .same = 951, .others = 7},
     {"join", "t=7 f=2, 3 lie", run_join, .t = 7, .f = 2, .others = 0x0049, .number = 7},
     {"join", "t=3 f=3, 4 lie", run_join, .t = 3, .f = 3, .others = 0x000f, .number = 7},
+    {"move_cut", "t=7 f=2", run_move_cut, .t = 7, .f = 2},
+    {"move_weigh", "t=7 f=2, eight sub-letters", run_move_weigh, .t = 7, .f = 2},
 };
 
 /* The search goes over all keepers, and goes far where the first are absent. */
