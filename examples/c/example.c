@@ -2,6 +2,7 @@
  * Csalgodes from C: cuts a secret for seven keepers, loses one letter, takes another from a liar, sees by
  * comparing which slots changed, picks what to join, and joins it. For a key of another number the same
  * letters give nothing. Then there is one liar too many, then too many letters are lost, and the pick refuses.
+ * At last the letters as they were cut are moved to eight new keepers, who get the same secret.
  *
  *     gcc -I target/library examples/c/example.c target/library/libcsalgodes.a -o example
  */
@@ -14,9 +15,19 @@
 enum { T = 2, F = 1, N = 7, STAMP = 1, LENGTH = 32, WORDS = LENGTH * T, SLOT = 2048, TRAY = N * SLOT };
 /* By these numbers letters of one secret are told from letters of another. */
 enum { KEY = 3, OTHER_KEY = 4 };
+/* Where the key moves to, and how many old keepers cut for that, which are these. */
+enum { NEW_T = 3, NEW_F = 1, NEW_N = 8, NEW_STAMP = 2, NEW_WORDS = LENGTH * NEW_T, NEW_TRAY = NEW_N * SLOT };
+enum { OLD_KEEPERS = T + 1 };
+static const uint32_t old_keepers[OLD_KEEPERS] = {2, 4, 6};
 
 static uint8_t *slot(uint8_t *tray, int keeper) {
     return tray + (keeper - 1) * SLOT;
+}
+
+static int random_bytes(void *bytes, size_t count) {
+    if (getentropy(bytes, count) == 0) return 1;
+    fprintf(stderr, "the operating system gives no random bytes\n");
+    return 0;
 }
 
 /* 65535 is 255 times 257. Below it each remainder is as likely as any other; it is drawn again. */
@@ -24,7 +35,7 @@ static int random_words(uint16_t *words, size_t count) {
     for (size_t i = 0; i < count; i++) {
         uint16_t draw;
         do {
-            if (getentropy(&draw, sizeof draw) != 0) return 0;
+            if (!random_bytes(&draw, sizeof draw)) return 0;
         } while (draw == 65535);
         words[i] = draw % 257;
     }
@@ -34,10 +45,7 @@ static int random_words(uint16_t *words, size_t count) {
 /* Cuts a new secret, with words of its own: random words are used once. */
 static int cut_new(uint8_t *secret, uint8_t *tray) {
     uint16_t words[WORDS];
-    if (getentropy(secret, LENGTH) != 0 || !random_words(words, WORDS)) {
-        fprintf(stderr, "the operating system gives no random bytes\n");
-        return 0;
-    }
+    if (!random_bytes(secret, LENGTH) || !random_words(words, WORDS)) return 0;
     uint32_t number = cs_cut(T, F, N, KEY, STAMP, secret, LENGTH, words, WORDS, tray, TRAY);
     if (number != 0) fprintf(stderr, "cut: number %u\n", number);
     return number == 0;
@@ -101,8 +109,54 @@ static uint32_t join_and_say(const uint8_t *tray, uint8_t *room) {
     return picked.length;
 }
 
+/* An old keeper cuts its letter again, with words of its own: a sub-letter for each new keeper. */
+static int cut_again(uint32_t keeper, const uint8_t *letter, uint8_t *tray) {
+    uint16_t words[NEW_WORDS];
+    if (!random_words(words, NEW_WORDS)) return 0;
+    cs_move_cut_result cut = cs_move_cut(T, F, N, NEW_T, NEW_F, NEW_N, KEY, LENGTH, NEW_STAMP, keeper,
+                                         letter, SLOT, words, NEW_WORDS, tray, NEW_TRAY);
+    if (cut.number != 0) fprintf(stderr, "keeper %u cuts: number %u\n", keeper, cut.number);
+    return cut.number == 0;
+}
+
+/* A new keeper weighs its sub-letters, one of each old keeper, into its letter. */
+static int weigh(uint32_t keeper, uint8_t trays[OLD_KEEPERS][NEW_TRAY], uint8_t *letter) {
+    uint8_t sub_letters[OLD_KEEPERS * SLOT];
+    for (int i = 0; i < OLD_KEEPERS; i++) memcpy(sub_letters + i * SLOT, slot(trays[i], keeper), SLOT);
+    cs_move_weigh_result weighed =
+        cs_move_weigh(T, F, N, NEW_T, NEW_F, NEW_N, KEY, LENGTH, NEW_STAMP, old_keepers, OLD_KEEPERS, keeper,
+                      sub_letters, sizeof sub_letters, letter, SLOT);
+    if (weighed.number != 0) fprintf(stderr, "keeper %u weighs: number %u\n", keeper, weighed.number);
+    return weighed.number == 0;
+}
+
+/* Moves the key. Each sub-letter goes from one keeper to one other, and nobody has the key meanwhile. */
+static int move_key(uint8_t *tray, uint8_t *new_tray) {
+    static uint8_t trays[OLD_KEEPERS][NEW_TRAY];
+    printf("move: for %d new keepers cut:", NEW_N);
+    for (int i = 0; i < OLD_KEEPERS; i++) {
+        if (!cut_again(old_keepers[i], slot(tray, old_keepers[i]), trays[i])) return 0;
+        printf(" %u", old_keepers[i]);
+    }
+    printf("\n");
+    for (int keeper = 1; keeper <= NEW_N; keeper++) {
+        if (!weigh(keeper, trays, slot(new_tray, keeper))) return 0;
+    }
+    return 1;
+}
+
+/* Whether the new letters give the secret. A lie of one old keeper shows here alone. */
+static int is_moved(const uint8_t *new_tray, const uint8_t *secret) {
+    uint8_t room[LENGTH];
+    cs_join_result found =
+        cs_join(NEW_T, NEW_F, NEW_N, KEY, NEW_STAMP, LENGTH, new_tray, NEW_TRAY, room, LENGTH);
+    printf("join of the new letters: number %u, usable %u, need %u, trials %u\n", found.number, found.usable,
+           found.need, found.trials);
+    return found.number == 0 && memcmp(room, secret, LENGTH) == 0;
+}
+
 int main(void) {
-    static uint8_t tray[TRAY], other_tray[TRAY], as_cut[TRAY];
+    static uint8_t tray[TRAY], other_tray[TRAY], as_cut[TRAY], new_tray[NEW_TRAY];
     uint8_t secret[LENGTH], other_secret[LENGTH], room[CS_LONGEST_SECRET];
     if (!cut_new(secret, tray) || !cut_new(other_secret, other_tray)) return 1;
     printf("cut: %d bytes into %d letters\n", LENGTH, N);
@@ -137,5 +191,12 @@ int main(void) {
         fprintf(stderr, "three letters were joined\n");
         return 1;
     }
+
+    /* The old letters stay until the new ones are seen to give the same secret. */
+    if (!move_key(as_cut, new_tray) || !is_moved(new_tray, secret)) {
+        fprintf(stderr, "the secret was not moved\n");
+        return 1;
+    }
+    printf("the new letters give the same secret\n");
     return 0;
 }

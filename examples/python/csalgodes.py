@@ -1,4 +1,4 @@
-"""Csalgodes for Python: the calls that cut, pick, join and compare, with bytes in and out."""
+"""Csalgodes for Python: the calls that cut, pick, join, compare and move, with bytes in and out."""
 
 from array import array
 from collections import namedtuple
@@ -8,6 +8,8 @@ SLOT = 2048
 Order = namedtuple("Order", "t f n")
 # a place where two trays differ, and the word that each has there
 Difference = namedtuple("Difference", "slot block word first second")
+# what both halves of a move are told, two orders first
+Move = namedtuple("Move", "old new key length stamp")
 
 
 class Picked(Structure):
@@ -36,6 +38,14 @@ class _Compared(Structure):
     _fields_ = [(name, c_uint32) for name in ("number", "count")]
 
 
+class _CutAgain(Structure):
+    _fields_ = [(name, c_uint32) for name in ("number", "place")]
+
+
+class _Weighed(Structure):
+    _fields_ = [(name, c_uint32) for name in ("number", "letter", "place")]
+
+
 class _Place(Structure):
     _fields_ = [(name, c_uint16) for name in Difference._fields]
 
@@ -54,6 +64,7 @@ _read = [c_char_p, c_size_t]
 _written = [POINTER(c_uint8), c_size_t]
 _words = [POINTER(c_uint16), c_size_t]
 _places = [POINTER(_Place), c_size_t]
+_keepers = [POINTER(c_uint32), c_size_t]
 
 # by the name that says which calls it has: one with other calls has another
 _library = CDLL("libcsalgodes.so.0.6")
@@ -65,6 +76,10 @@ _library.cs_join.argtypes = [c_uint32] * 6 + _read + _written
 _library.cs_join.restype = Found
 _library.cs_compare.argtypes = [c_uint32] * 3 + _read + _read + _places
 _library.cs_compare.restype = _Compared
+_library.cs_move_cut.argtypes = [c_uint32] * 10 + _read + _words + _written
+_library.cs_move_cut.restype = _CutAgain
+_library.cs_move_weigh.argtypes = [c_uint32] * 9 + _keepers + [c_uint32] + _read + _written
+_library.cs_move_weigh.restype = _Weighed
 
 
 def _numbers(*numbers):
@@ -119,3 +134,33 @@ def compare(order, first, second):
         raise Refused(compared.number, f"number {compared.number}")
     found = places[: compared.count]
     return [Difference(*(getattr(place, name) for name in Difference._fields)) for place in found]
+
+
+def move_cut(move, keeper, letter, random):
+    """A tray with a sub-letter for each new keeper, of an old keeper's letter, with t random words a byte."""
+    numbers = _numbers(*move.old, *move.new, move.key, move.length, move.stamp, keeper)
+    words = array("H", random)
+    tray = bytearray(move.new.n * SLOT)
+    cut_again = _library.cs_move_cut(
+        *numbers, bytes(letter), len(letter), *_lent(words, c_uint16), *_lent(tray, c_uint8)
+    )
+    if cut_again.number != 0:
+        raise Refused(cut_again.number, f"number {cut_again.number}")
+    return tray
+
+
+def move_weigh(move, keepers, keeper, letters):
+    """The letter of a new keeper, of its sub-letters end to end, one of each of these old keepers."""
+    numbers = _numbers(*move.old, *move.new, move.key, move.length, move.stamp)
+    slot = bytearray(SLOT)
+    weighed = _library.cs_move_weigh(
+        *numbers,
+        *_lent(_numbers(*keepers), c_uint32),
+        *_numbers(keeper),
+        bytes(letters),
+        len(letters),
+        *_lent(slot, c_uint8),
+    )
+    if weighed.number != 0:
+        raise Refused(weighed.number, f"number {weighed.number}")
+    return slot

@@ -1,4 +1,4 @@
-//! Csalgodes for Rust: the calls that cut, pick, join and compare, with slices in and out.
+//! Csalgodes for Rust: the calls that cut, pick, join, compare and move, with slices in and out.
 //!
 //! A slice is there and is never NULL, and one that may be written overlaps no other. That is all
 //! the C header asks of a caller, so these calls are safe whatever they are given.
@@ -69,6 +69,31 @@ struct Compared {
     count: u32,
 }
 
+/// What both halves of a move are told.
+#[derive(Clone, Copy)]
+pub struct Move {
+    pub old: Order,
+    pub new: Order,
+    pub key: u32,
+    pub length: u32,
+    pub stamp: u32,
+}
+
+/// What became of an old keeper's letter.
+#[repr(C)]
+pub struct CutAgain {
+    pub number: u32,
+    pub place: u32,
+}
+
+/// What became of a new keeper's sub-letters.
+#[repr(C)]
+pub struct Weighed {
+    pub number: u32,
+    pub letter: u32,
+    pub place: u32,
+}
+
 #[link(name = "csalgodes", kind = "static")]
 #[rustfmt::skip]
 extern "C" {
@@ -96,6 +121,22 @@ extern "C" {
         second: *const u8, second_length: usize,
         list: *mut Difference, list_count: usize,
     ) -> Compared;
+
+    fn cs_move_cut(
+        old_t: u32, old_f: u32, old_n: u32, t: u32, f: u32, n: u32,
+        key: u32, length: u32, stamp: u32, keeper: u32,
+        letter: *const u8, letter_length: usize,
+        random: *const u16, random_count: usize,
+        tray: *mut u8, tray_length: usize,
+    ) -> CutAgain;
+
+    fn cs_move_weigh(
+        old_t: u32, old_f: u32, old_n: u32, t: u32, f: u32, n: u32,
+        key: u32, length: u32, stamp: u32,
+        keepers: *const u32, keepers_count: usize, keeper: u32,
+        letters: *const u8, letters_length: usize,
+        slot: *mut u8, slot_length: usize,
+    ) -> Weighed;
 }
 
 /// Cuts a secret into the tray, its key's number in every letter, or gives the number of the refusal.
@@ -161,5 +202,49 @@ pub fn compare(
             Ok(list)
         }
         Compared { number, .. } => Err(number),
+    }
+}
+
+/// Cuts an old keeper's letter again: the tray gets a sub-letter for each new keeper.
+#[rustfmt::skip]
+pub fn move_cut(
+    Move { old, new, key, length, stamp }: Move,
+    keeper: u32,
+    letter: &[u8],
+    random: &[u16],
+    tray: &mut [u8],
+) -> Result<(), CutAgain> {
+    match unsafe {
+        cs_move_cut(
+            old.t, old.f, old.n, new.t, new.f, new.n, key, length, stamp, keeper,
+            letter.as_ptr(), letter.len(),
+            random.as_ptr(), random.len(),
+            tray.as_mut_ptr(), tray.len(),
+        )
+    } {
+        CutAgain { number: 0, .. } => Ok(()),
+        refusal => Err(refusal),
+    }
+}
+
+/// Weighs a new keeper's sub-letters, one of each of these old keepers, into its letter.
+#[rustfmt::skip]
+pub fn move_weigh(
+    Move { old, new, key, length, stamp }: Move,
+    keepers: &[u32],
+    keeper: u32,
+    letters: &[u8],
+    slot: &mut [u8],
+) -> Result<(), Weighed> {
+    match unsafe {
+        cs_move_weigh(
+            old.t, old.f, old.n, new.t, new.f, new.n, key, length, stamp,
+            keepers.as_ptr(), keepers.len(), keeper,
+            letters.as_ptr(), letters.len(),
+            slot.as_mut_ptr(), slot.len(),
+        )
+    } {
+        Weighed { number: 0, .. } => Ok(()),
+        refusal => Err(refusal),
     }
 }

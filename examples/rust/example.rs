@@ -1,13 +1,14 @@
 //! Csalgodes from Rust: cuts a secret for seven keepers, loses one letter, takes another from a
 //! liar, sees by comparing which slots changed, picks what to join, and joins it. For a key of another
 //! number the same letters give nothing. Then there is one liar too many, then too many letters are
-//! lost, and the pick refuses.
+//! lost, and the pick refuses. At last the letters as they were cut are moved to eight new keepers,
+//! who get the same secret.
 //!
 //!     rustc --edition 2021 -L target/library examples/rust/example.rs
 
 mod csalgodes;
 
-use csalgodes::{compare, cut, join, pick, Order, Picked, SLOT};
+use csalgodes::{compare, cut, join, move_cut, move_weigh, pick, Move, Order, Picked, SLOT};
 use std::{error::Error, fs::File, io, io::Read, ops::Range};
 
 const ORDER: Order = Order { t: 2, f: 1, n: 7 };
@@ -16,8 +17,14 @@ const KEY: u32 = 3;
 const OTHER_KEY: u32 = 4;
 const STAMP: u32 = 1;
 const LENGTH: usize = 32;
-const WORDS: usize = LENGTH * ORDER.t as usize;
 const TRAY: usize = ORDER.n as usize * SLOT;
+/// Where the key moves to, and the old keepers that cut for that, who are t+1.
+const NEW_ORDER: Order = Order { t: 3, f: 1, n: 8 };
+const NEW_STAMP: u32 = 2;
+const NEW_TRAY: usize = NEW_ORDER.n as usize * SLOT;
+const MOVE: Move =
+    Move { old: ORDER, new: NEW_ORDER, key: KEY, length: LENGTH as u32, stamp: NEW_STAMP };
+const OLD_KEEPERS: [u32; 3] = [2, 4, 6];
 
 fn slot(keeper: usize) -> Range<usize> {
     (keeper - 1) * SLOT..keeper * SLOT
@@ -39,11 +46,15 @@ fn random_word() -> io::Result<u16> {
     }
 }
 
+/// So many as a cut takes under this order.
+fn random_words(order: Order) -> io::Result<Vec<u16>> {
+    (0..LENGTH * order.t as usize).map(|_| random_word()).collect()
+}
+
 /// Cuts a new secret, with words of its own: random words are used once.
 fn cut_new(tray: &mut [u8]) -> Result<[u8; LENGTH], Box<dyn Error>> {
     let secret = random_bytes()?;
-    let words = (0..WORDS).map(|_| random_word()).collect::<Result<Vec<_>, _>>()?;
-    cut(ORDER, KEY, STAMP, &secret, &words, tray)
+    cut(ORDER, KEY, STAMP, &secret, &random_words(ORDER)?, tray)
         .map_err(|number| format!("cut: number {number}"))?;
     Ok(secret)
 }
@@ -97,6 +108,41 @@ fn join_and_say(tray: &[u8]) -> Option<Vec<u8>> {
     }
 }
 
+/// An old keeper cuts its letter again, with words of its own: a sub-letter for each new keeper.
+fn cut_again(keeper: u32, tray: &[u8]) -> Result<[u8; NEW_TRAY], Box<dyn Error>> {
+    let mut subs = [0; NEW_TRAY];
+    move_cut(MOVE, keeper, &tray[slot(keeper as usize)], &random_words(NEW_ORDER)?, &mut subs)
+        .map_err(|refusal| format!("keeper {keeper} cuts: number {}", refusal.number))?;
+    Ok(subs)
+}
+
+/// A new keeper weighs its sub-letters, one of each old keeper, into its letter.
+fn weigh(keeper: u32, trays: &[[u8; NEW_TRAY]]) -> Result<[u8; SLOT], Box<dyn Error>> {
+    let mut letter = [0; SLOT];
+    let subs: Vec<_> = trays.iter().map(|tray| &tray[slot(keeper as usize)]).collect();
+    move_weigh(MOVE, &OLD_KEEPERS, keeper, &subs.concat(), &mut letter)
+        .map_err(|refusal| format!("keeper {keeper} weighs: number {}", refusal.number))?;
+    Ok(letter)
+}
+
+/// Moves the key. Each sub-letter goes from one keeper to one other, and nobody has the key meanwhile.
+fn move_key(tray: &[u8]) -> Result<Vec<u8>, Box<dyn Error>> {
+    let trays =
+        OLD_KEEPERS.iter().map(|&old| cut_again(old, tray)).collect::<Result<Vec<_>, _>>()?;
+    let old = OLD_KEEPERS.map(|keeper| keeper.to_string());
+    println!("move: for {} new keepers cut: {}", NEW_ORDER.n, old.join(" "));
+    let letters = (1..=NEW_ORDER.n).map(|new| weigh(new, &trays)).collect::<Result<Vec<_>, _>>()?;
+    Ok(letters.concat())
+}
+
+/// The secret that the new letters give, if they join. A lie of one old keeper shows in it alone.
+fn join_moved(tray: &[u8]) -> Option<[u8; LENGTH]> {
+    let mut room = [0; LENGTH];
+    let (Ok(found) | Err(found)) = join(NEW_ORDER, KEY, NEW_STAMP, tray, &mut room);
+    println!("join of the new letters: {found}");
+    (found.number == 0).then_some(room)
+}
+
 fn main() -> Result<(), Box<dyn Error>> {
     let (mut tray, mut other_tray) = ([0; TRAY], [0; TRAY]);
     let secret = cut_new(&mut tray)?;
@@ -128,8 +174,14 @@ fn main() -> Result<(), Box<dyn Error>> {
     for silent in [1, 2, 4] {
         tray[slot(silent)].fill(0);
     }
-    match join_and_say(&tray) {
-        None => Ok(()),
-        Some(_) => Err("three letters were joined".into()),
+    if join_and_say(&tray).is_some() {
+        return Err("three letters were joined".into());
     }
+
+    // The old letters stay until the new ones are seen to give the same secret.
+    if join_moved(&move_key(&as_cut)?) != Some(secret) {
+        return Err("the secret was not moved".into());
+    }
+    println!("the new letters give the same secret");
+    Ok(())
 }
