@@ -6,6 +6,7 @@ use std::mem::{size_of, MaybeUninit};
 use second::block::BLOCK;
 use second::join::Joined;
 use second::letter::{Fault, Head};
+use second::moving::{CutAgain, Move, Weighed};
 use second::order::Order;
 use second::pick::Picked;
 use second::told::Told;
@@ -37,6 +38,19 @@ struct ReadResult {
     keeper: u32,
     stamp: u32,
     length: u32,
+}
+
+#[repr(C)]
+struct MoveCutResult {
+    number: u32,
+    place: u32,
+}
+
+#[repr(C)]
+struct MoveWeighResult {
+    number: u32,
+    letter: u32,
+    place: u32,
 }
 
 /// What a comparison found.
@@ -79,6 +93,20 @@ impl From<PickResult> for Picked {
     }
 }
 
+impl From<MoveCutResult> for CutAgain {
+    fn from(result: MoveCutResult) -> CutAgain {
+        let MoveCutResult { number, place } = result;
+        CutAgain { number, place }
+    }
+}
+
+impl From<MoveWeighResult> for Weighed {
+    fn from(result: MoveWeighResult) -> Weighed {
+        let MoveWeighResult { number, letter, place } = result;
+        Weighed { number, letter, place }
+    }
+}
+
 impl From<ReadResult> for Result<Head, Fault> {
     fn from(result: ReadResult) -> Result<Head, Fault> {
         let ReadResult { number, place, t, f, n, key, keeper, stamp, length } = result;
@@ -94,6 +122,8 @@ const LONGEST_RETURNED: usize = 16;
 const _: () = {
     assert!(size_of::<PickResult>() <= LONGEST_RETURNED);
     assert!(size_of::<Compared>() <= LONGEST_RETURNED);
+    assert!(size_of::<MoveCutResult>() <= LONGEST_RETURNED);
+    assert!(size_of::<MoveWeighResult>() <= LONGEST_RETURNED);
     assert!(size_of::<JoinResult>() > LONGEST_RETURNED);
     assert!(size_of::<ReadResult>() > LONGEST_RETURNED);
 };
@@ -118,6 +148,8 @@ macro_rules! calls {
         $join:literal,
         $read:literal,
         $compare:literal,
+        $move_cut:literal,
+        $move_weigh:literal,
         $seal:literal
     ) => {
         pub mod $library {
@@ -183,6 +215,46 @@ macro_rules! calls {
                     list: *mut Difference,
                     list_count: usize,
                 ) -> Compared;
+
+                #[link_name = $move_cut]
+                fn cs_move_cut(
+                    old_t: u32,
+                    old_f: u32,
+                    old_n: u32,
+                    t: u32,
+                    f: u32,
+                    n: u32,
+                    key: u32,
+                    length: u32,
+                    stamp: u32,
+                    keeper: u32,
+                    letter: *const u8,
+                    letter_length: usize,
+                    random: *const u16,
+                    random_count: usize,
+                    tray: *mut u8,
+                    tray_length: usize,
+                ) -> MoveCutResult;
+
+                #[link_name = $move_weigh]
+                fn cs_move_weigh(
+                    old_t: u32,
+                    old_f: u32,
+                    old_n: u32,
+                    t: u32,
+                    f: u32,
+                    n: u32,
+                    key: u32,
+                    length: u32,
+                    stamp: u32,
+                    keepers: *const u32,
+                    keepers_count: usize,
+                    keeper: u32,
+                    letters: *const u8,
+                    letters_length: usize,
+                    slot: *mut u8,
+                    slot_length: usize,
+                ) -> MoveWeighResult;
 
                 /// No public call. The block must have 512 bytes.
                 #[link_name = $seal]
@@ -282,6 +354,74 @@ macro_rules! calls {
                 }
             }
 
+            pub fn move_cut(
+                Move { old, new: Told { order, key }, length, stamp }: Move,
+                keeper: u32,
+                letter: &[u8],
+                random: &[u16],
+                tray: &mut [u8],
+            ) -> CutAgain {
+                let (letter, letter_length) = (letter.as_ptr(), letter.len());
+                let (random, random_count) = (random.as_ptr(), random.len());
+                let (tray, tray_length) = (tray.as_mut_ptr(), tray.len());
+                // SAFETY: as in the cut.
+                unsafe {
+                    cs_move_cut(
+                        old.t,
+                        old.f,
+                        old.n,
+                        order.t,
+                        order.f,
+                        order.n,
+                        key,
+                        length,
+                        stamp,
+                        keeper,
+                        letter,
+                        letter_length,
+                        random,
+                        random_count,
+                        tray,
+                        tray_length,
+                    )
+                }
+                .into()
+            }
+
+            pub fn move_weigh(
+                Move { old, new: Told { order, key }, length, stamp }: Move,
+                keepers: &[u32],
+                keeper: u32,
+                letters: &[u8],
+                slot: &mut [u8],
+            ) -> Weighed {
+                let (keepers, keepers_count) = (keepers.as_ptr(), keepers.len());
+                let (letters, letters_length) = (letters.as_ptr(), letters.len());
+                let (slot, slot_length) = (slot.as_mut_ptr(), slot.len());
+                // SAFETY: as in the cut.
+                unsafe {
+                    cs_move_weigh(
+                        old.t,
+                        old.f,
+                        old.n,
+                        order.t,
+                        order.f,
+                        order.n,
+                        key,
+                        length,
+                        stamp,
+                        keepers,
+                        keepers_count,
+                        keeper,
+                        letters,
+                        letters_length,
+                        slot,
+                        slot_length,
+                    )
+                }
+                .into()
+            }
+
             pub fn seal(block: &mut [u8; BLOCK]) {
                 let lent = Lent { bytes: block.as_mut_ptr(), count: BLOCK };
                 // SAFETY: as in the cut, and a block has 512 bytes.
@@ -291,6 +431,26 @@ macro_rules! calls {
     };
 }
 
-calls!(plain, "cs_cut", "cs_pick", "cs_join", "cs_read", "cs_compare", "seal");
+calls!(
+    plain,
+    "cs_cut",
+    "cs_pick",
+    "cs_join",
+    "cs_read",
+    "cs_compare",
+    "cs_move_cut",
+    "cs_move_weigh",
+    "seal"
+);
 #[cfg(target_arch = "x86_64")]
-calls!(v3, "v3_cs_cut", "v3_cs_pick", "v3_cs_join", "v3_cs_read", "v3_cs_compare", "v3_seal");
+calls!(
+    v3,
+    "v3_cs_cut",
+    "v3_cs_pick",
+    "v3_cs_join",
+    "v3_cs_read",
+    "v3_cs_compare",
+    "v3_cs_move_cut",
+    "v3_cs_move_weigh",
+    "v3_seal"
+);

@@ -3,6 +3,7 @@
 
 use crate::comparing::MEMCMP;
 use crate::gfshare::LENT;
+use crate::moving;
 use crate::numbers::{ratio, time};
 use crate::picking::{EIGHT_JOINS, JOIN};
 use crate::programs::SECOND;
@@ -18,6 +19,7 @@ pub struct Limit {
 pub fn limits(races: &Races) -> Vec<Limit> {
     let equal = races.equal.library();
     let (one, eight) = (&races.one_group, &races.eight_groups);
+    let (again, weighing) = (&races.cutting_again, &races.weighing);
     vec![
         beside_second(1.5, "cut", &races.cut),
         less_than_gfshare(&races.cut),
@@ -26,6 +28,13 @@ pub fn limits(races: &Races) -> Vec<Limit> {
         under(20, "join, t=7, three liars, answer 7", &races.too_many),
         at_most(1.3, "pick, one sound group", one.library(), JOIN, one.of(JOIN)),
         no_more_than("pick, eight groups", eight.library(), EIGHT_JOINS, eight.of(EIGHT_JOINS)),
+        at_most(1.2, "move, a letter cut", again.library(), moving::CUT, again.of(moving::CUT)),
+        no_more_than(
+            "move, sub-letters weighed",
+            weighing.library(),
+            moving::JOIN,
+            weighing.of(moving::JOIN),
+        ),
         at_most(3.0, "compare, equal trays", equal, MEMCMP, races.equal.of(MEMCMP)),
         beside_equal("compare, 100 words differ, over the whole tray", &races.spread, equal),
         beside_equal("compare, 100 words differ, in one slot", &races.one_slot, equal),

@@ -11,11 +11,8 @@ use second::random::Random;
 use second::told::Told;
 
 use crate::case::{cut, Case, KEY, STAMP};
-use crate::programs::{programs, JoinCall, PickCall, Program, LIBRARY};
+use crate::programs::{programs, JoinCall, Names, PickCall, Program, LIBRARY};
 use crate::race::{Side, Sides};
-
-/// What the joins of a tray are called, as compiled for any processor and for x86-64-v3.
-type Names = [&'static str; 2];
 
 pub const JOIN: &str = "its join";
 pub const EIGHT_JOINS: &str = "its eight joins";
@@ -31,6 +28,7 @@ pub struct Groups {
     groups: Vec<Group>,
     /// What the plain second program picks.
     picked: Picked,
+    /// Those of the joins.
     names: Names,
 }
 

@@ -3,7 +3,7 @@
 use std::hint::black_box;
 use std::time::Instant;
 
-use crate::programs::{LIBRARY, LIBRARY_V3};
+use crate::programs::is_library;
 
 /// Many short slices, so that a slow spell of the machine hits every side.
 const SLICES: usize = 60;
@@ -107,7 +107,7 @@ impl Best {
     }
 
     pub fn is_library(&self) -> bool {
-        [LIBRARY, LIBRARY_V3].contains(&self.name)
+        is_library(self.name)
     }
 }
 

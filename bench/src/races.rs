@@ -6,6 +6,7 @@ use second::random::Random;
 
 use crate::case::{Case, STAMP};
 use crate::comparing::{by_memcmp, compares, Trays};
+use crate::moving::{cuttings, weighings, Moving};
 use crate::picking::{picks, Groups};
 use crate::programs::LIBRARY_V3;
 use crate::race::Race;
@@ -20,6 +21,8 @@ pub struct Races {
     pub too_many: Race,
     pub one_group: Race,
     pub eight_groups: Race,
+    pub cutting_again: Race,
+    pub weighing: Race,
     pub reading: Race,
     pub sealing: Race,
     pub equal: Race,
@@ -44,6 +47,7 @@ impl Races {
         let (one_group, eight_groups) = (Groups::one(&good), Groups::eight(random));
         assert_eq!(one_group.answers(), (vec![0], picked(STAMP)));
         assert_eq!(eight_groups.answers(), (vec![8, 8, 8, 8, 8, 8, 8, 0], picked(1)));
+        let (moving, four) = (Moving::new(&good, random), Case::good(Order::new(3, 0, 4), random));
         let [equal, spread, one_slot] = comparisons(&good);
         Races {
             cut: Race::run("cut, t=3, f=3, n=16", cuts),
@@ -54,6 +58,14 @@ impl Races {
             eight_groups: Race::run(
                 "pick, t=1, f=0, n=16, eight groups, the last joins",
                 picks(&eight_groups),
+            ),
+            cutting_again: Race::run(
+                "move, a letter cut for 16, t=3, f=3, n=16",
+                cuttings(&moving, &good),
+            ),
+            weighing: Race::run(
+                "move, four sub-letters weighed, t=3, f=3, n=16",
+                weighings(&moving, &four),
             ),
             reading: Race::run("reading 16 letters, t=3, f=3, n=16", reads(&good)),
             sealing: Race::run("sealing one block", seals(&good)),
@@ -71,9 +83,16 @@ impl Races {
     pub fn all(&self) -> impl Iterator<Item = &Race> {
         let joined = [&self.good, &self.liars, &self.too_many];
         let picked = [&self.one_group, &self.eight_groups];
-        let (read, sealed) = (&self.reading, &self.sealing);
+        let moved = [&self.cutting_again, &self.weighing];
+        let alone = [&self.reading, &self.sealing];
         let compared = [&self.equal, &self.spread, &self.one_slot];
-        [&self.cut].into_iter().chain(joined).chain(picked).chain([read, sealed]).chain(compared)
+        [&self.cut]
+            .into_iter()
+            .chain(joined)
+            .chain(picked)
+            .chain(moved)
+            .chain(alone)
+            .chain(compared)
     }
 }
 

@@ -7,7 +7,7 @@ use second::letter::{Fault, Head, Letter};
 use second::order::SLOT;
 
 use crate::case::{Case, STAMP};
-use crate::programs::{programs, CutCall, JoinCall, Program, ReadCall};
+use crate::programs::{programs, CutCall, JoinCall, Names, Program, ReadCall};
 use crate::race::{Side, Sides};
 
 struct Cut<'a> {
@@ -19,10 +19,21 @@ struct Cut<'a> {
 }
 
 pub fn cuts(case: &Case) -> Sides<'_> {
-    let side = |Program { name, cut: call, .. }| -> Box<dyn Side + '_> {
-        Box::new(Cut { name, call, case, number: 1, tray: case.tray.clone() })
-    };
-    programs().into_iter().map(side).collect()
+    programs().into_iter().map(|program| cutting(program.name, program, case)).collect()
+}
+
+/// The library's alone.
+pub fn own_cuts(case: &Case, names: Names) -> Sides<'_> {
+    own(names).map(|(name, program)| cutting(name, program, case)).collect()
+}
+
+fn cutting<'a>(name: &'static str, program: Program, case: &'a Case) -> Box<dyn Side + 'a> {
+    Box::new(Cut { name, call: program.cut, case, number: 1, tray: case.tray.clone() })
+}
+
+/// The library as it is compiled for this processor and that, under these names.
+fn own(names: Names) -> impl Iterator<Item = (&'static str, Program)> {
+    names.into_iter().zip(programs().into_iter().filter(Program::is_library))
 }
 
 impl Side for Cut<'_> {
@@ -58,10 +69,17 @@ struct Join<'a> {
 }
 
 pub fn joins(case: &Case) -> Sides<'_> {
-    let side = |Program { name, join: call, .. }| -> Box<dyn Side + '_> {
-        Box::new(Join { name, call, case, joined: Joined::default(), room: case.room.clone() })
-    };
-    programs().into_iter().map(side).collect()
+    programs().into_iter().map(|program| joining(program.name, program, case)).collect()
+}
+
+/// The library's alone.
+pub fn own_joins(case: &Case, names: Names) -> Sides<'_> {
+    own(names).map(|(name, program)| joining(name, program, case)).collect()
+}
+
+fn joining<'a>(name: &'static str, program: Program, case: &'a Case) -> Box<dyn Side + 'a> {
+    let (call, room) = (program.join, case.room.clone());
+    Box::new(Join { name, call, case, joined: Joined::default(), room })
 }
 
 impl Side for Join<'_> {

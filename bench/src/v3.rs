@@ -25,9 +25,21 @@ pub fn programs() -> Vec<Program> {
             read: Some(v3::read),
             seal: Some(v3::seal),
             pick: Some(v3::pick),
+            move_cut: Some(v3::move_cut),
+            move_weigh: Some(v3::move_weigh),
             compare: Some(v3::compare),
         },
-        Program { name: SECOND_V3, cut, join, read: None, seal: None, pick: None, compare: None },
+        Program {
+            name: SECOND_V3,
+            cut,
+            join,
+            read: None,
+            seal: None,
+            pick: None,
+            move_cut: None,
+            move_weigh: None,
+            compare: None,
+        },
     ]
 }
 
