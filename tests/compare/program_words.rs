@@ -4,6 +4,7 @@
 use std::ffi::OsString;
 
 use second::cases::Tray;
+use second::moving::Move;
 use second::order::Order;
 use second::random::Random;
 use second::run::{each, Run, WRONG_WORDS};
@@ -19,14 +20,17 @@ struct Command {
     names: &'static [&'static str],
 }
 
+const FROM: (&str, &str) = ("--from", "1,1,6");
 const ORDER: (&str, &str) = ("--order", "1,1,6");
 const KEY: (&str, &str) = ("--key", "9");
 const STAMP: (&str, &str) = ("--stamp", "5");
+const NEW_STAMP: (&str, &str) = ("--stamp", "6");
+const KEEPERS: (&str, &str) = ("--keepers", "2,3");
 const KEEPER: (&str, &str) = ("--keeper", "2");
 const LENGTH: (&str, &str) = ("--length", "60");
 
 /// With the words that stand here each of them is done, in the folder that is laid out below.
-const COMMANDS: [Command; 6] = [
+const COMMANDS: [Command; 9] = [
     Command {
         name: "cut",
         options: &[ORDER, KEY, STAMP],
@@ -53,7 +57,30 @@ const COMMANDS: [Command; 6] = [
         names: &["tray", "joined"],
     },
     Command { name: "compare", options: &[ORDER], bare: None, names: &["tray", "tray"] },
+    Command {
+        name: "move-cut",
+        options: &[FROM, ORDER, KEY, LENGTH, NEW_STAMP, KEEPER],
+        bare: None,
+        names: &["letter", "cut"],
+    },
+    Command {
+        name: "move-weigh",
+        options: &[FROM, ORDER, KEY, LENGTH, NEW_STAMP, KEEPERS, KEEPER],
+        bare: Some("--replace"),
+        names: &["sent", "moved"],
+    },
+    Command {
+        name: "move-check",
+        options: &[FROM, ORDER, KEY],
+        bare: None,
+        names: &["tray", "tray"],
+    },
 ];
+
+/// Every option, and those that take no value.
+const OPTIONS: [&str; 8] =
+    ["--from", "--order", "--key", "--stamp", "--keepers", "--keeper", "--length", "--replace"];
+const BARE: [&str; 1] = ["--replace"];
 
 const NO_NUMBERS: [&str; 15] = [
     "",
@@ -92,10 +119,42 @@ const NO_ORDERS: [&str; 16] = [
     "2,1,18446744073709551624",
 ];
 
+/// From one number to eight are a list.
+const NO_LISTS: [&str; 13] = [
+    "",
+    ",",
+    "2,",
+    ",2",
+    "2,,3",
+    "2 3",
+    "2, 3",
+    "2;3",
+    "-2,3",
+    "x,3",
+    "2,4294967296",
+    "2,00000000003",
+    "1,2,3,4,5,6,7,8,9",
+];
+
+const TOLD: Told = Told { order: Order { t: 1, f: 1, n: 6 }, key: 9 };
+
+/// The sub-letters of keepers 2 and 3 for keeper 2, in a folder.
+fn send(scratch: &Scratch, tray: &Tray, random: &Random) {
+    scratch.folder("sent");
+    let told = Move { old: TOLD.order, new: TOLD, length: 60, stamp: 6 };
+    for keeper in [2, 3] {
+        let mut cut = vec![0; TOLD.order.tray()];
+        let answer = told.cut(keeper, tray.letter(keeper), &random.words(60), &mut cut);
+        assert_eq!(answer.number, 0);
+        scratch.write(format!("sent/{keeper}"), &cut[2048..4096]);
+    }
+}
+
 fn lay_out() -> Scratch {
     let random = &Random::new(241);
     let scratch = Scratch::new();
-    let tray = Tray::cut(Told::new(Order::new(1, 1, 6), 9), 5, 60, random);
+    let tray = Tray::cut(TOLD, 5, 60, random);
+    send(&scratch, &tray, random);
     scratch.write("secret", &tray.secret);
     scratch.tray("tray", &tray.bytes);
     scratch.write("letter", tray.letter(2));
@@ -220,9 +279,15 @@ fn the_greatest_numbers() {
         "fetch --order 1,1,4294967295 --key 9 --keeper 2 held out",
         "join --order 1,1,4294967295 --key 9 tray joined",
         "compare --order 0,0,0 tray tray",
+        "move-check --from 1,1,4294967295 --order 1,1,6 --key 9 tray tray",
+        "move-check --from 4294967295,1,6 --order 1,1,6 --key 4294967295 tray tray",
+        "move-cut --from 1,1,6 --order 1,1,6 --key 9 --length 60 --stamp 6 --keeper 4294967295 letter cut",
     ] {
         scratch.run(line).answers(1);
     }
+    let greatest = "--from 1,1,6 --order 1,1,6 --key 9 --length 4294967295 --stamp 4294967295";
+    scratch.run(&format!("move-cut {greatest} --keeper 2 letter cut")).answers(2);
+    scratch.run(&format!("move-weigh {greatest} --keepers 2,3 --keeper 2 sent moved")).answers(2);
 }
 
 #[test]
@@ -296,7 +361,6 @@ fn options_twice() {
 /// An option of no command, one of another command, and one that is not written out.
 #[test]
 fn options_of_others() {
-    let every = ["--order", "--key", "--stamp", "--keeper", "--length", "--replace"];
     let none = [
         "--nothing",
         "-k",
@@ -312,8 +376,8 @@ fn options_of_others() {
     let mut all = Vec::new();
     for command in &COMMANDS {
         let own = command.all_options();
-        for option in every.iter().chain(&none).filter(|option| !own.contains(option)) {
-            let takes_value = every[..5].contains(option);
+        for option in OPTIONS.iter().chain(&none).filter(|option| !own.contains(option)) {
+            let takes_value = OPTIONS.contains(option) && !BARE.contains(option);
             let values = if takes_value { &["7"][..] } else { &[] };
             let mut words = command.right_words();
             words.splice(1..1, [&[*option][..], values].concat().into_iter().map(String::from));
@@ -328,7 +392,11 @@ fn values_that_are_no_numbers() {
     let mut all = Vec::new();
     for command in &COMMANDS {
         for (place, &(option, _)) in command.options.iter().enumerate() {
-            let wrong = if option == "--order" { &NO_ORDERS[..] } else { &NO_NUMBERS[..] };
+            let wrong = match option {
+                "--order" | "--from" => &NO_ORDERS[..],
+                "--keepers" => &NO_LISTS,
+                _ => &NO_NUMBERS,
+            };
             for value in wrong {
                 all.push(Wrong::new(command, command.words_with(place, value), &[value, option]));
             }
@@ -374,6 +442,7 @@ fn nothing_is_read() {
         "cut --order 1,1,6 --key 9 --stamp 5 -",
         "cut --order 1,1,6 --key 9 - letters",
         "store --order 1,1,6 --key 9 --keeper x desk -",
+        "move-cut --from 1,1 --order 1,1,6 --key 9 --length 60 --stamp 6 --keeper 2 - cut",
         "show - -",
         "show - --key 9",
     ] {
@@ -397,6 +466,10 @@ fn a_dash_where_none_may_be() {
         "join --order 1,1,6 --key 9 - joined",
         "compare --order 1,1,6 - tray",
         "compare --order 1,1,6 tray -",
+        "move-cut --from 1,1,6 --order 1,1,6 --key 9 --length 60 --stamp 6 --keeper 2 letter -",
+        "move-weigh --from 1,1,6 --order 1,1,6 --key 9 --length 60 --stamp 6 --keepers 2,3 --keeper 2 - out",
+        "move-check --from 1,1,6 --order 1,1,6 --key 9 - tray",
+        "move-check --from 1,1,6 --order 1,1,6 --key 9 tray -",
     ] {
         let ended = scratch.run(line);
         ended.blames("-");
