@@ -30,7 +30,7 @@ _csalgodes_options() { # COMMAND
     compare) echo --order --help ;;
     move-cut) echo --from --order --key --length --stamp --keeper --help ;;
     move-weigh) echo --from --order --key --length --stamp --keepers --keeper --replace --help ;;
-    move-check) echo --order --key --help ;;
+    move-check) echo --from --order --key --help ;;
     esac
 }
 

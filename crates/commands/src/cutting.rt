@@ -14,7 +14,7 @@ use saving::folder::made;
 use saying::trouble;
 
 // How many random words a cut takes. A t or a length that is refused in any case needs none.
-fn words_for(t: u32, l: usize) -> usize
+pub fn words_for(t: u32, l: usize) -> usize
     ensures { λ r. ⌜ r ≤ 6664 ⌝ }
 {
     if t > 7 {
@@ -27,7 +27,7 @@ fn words_for(t: u32, l: usize) -> usize
 }
 
 // Puts the letters of a tray into their folder, whose name may end in '/'.
-fn put_letters(folder: &[u8], n: u32, tray: &[u8]) -> i32
+pub fn put_letters(folder: &[u8], n: u32, tray: &[u8]) -> i32
     requires { ⌜ length (now tray) ≡ 2048 * n ⌝ }
 {
     let end = trimmed(folder);

@@ -26,7 +26,21 @@ fn stand() {
     }
 }
 
+// Of the commands that move a key.
+fn run_move(command: usize, g: Given) -> i32 {
+    if command == form::MOVE_CUT {
+        return moves::cutting::run(g);
+    }
+    if command == form::MOVE_WEIGH {
+        return moves::gathering::run(g);
+    }
+    moves::checking::run(g)
+}
+
 fn run_given(command: usize, g: Given) -> i32 {
+    if command >= form::MOVE_CUT {
+        return run_move(command, g);
+    }
     if command == form::CUT {
         return commands::cutting::run(g);
     }

@@ -6,7 +6,7 @@ use saving::save::said;
 use saying::line::four;
 use saying::line::say;
 
-const USAGE: [u8; 1722] = *b"\
+const USAGE: [u8; 1730] = *b"\
 csalgodes: a signing key as letters, one for each of N keepers, that come back
 right or not at all.
 
@@ -21,7 +21,7 @@ right or not at all.
                        --keeper X LETTER FOLDER
   csalgodes move-weigh --from T,F,N --order T,F,N --key K --length L --stamp S
                        --keepers A,B,.. --keeper Y [--replace] FOLDER LETTER
-  csalgodes move-check --order T,F,N --key K FIRST SECOND
+  csalgodes move-check --from T,F,N --order T,F,N --key K OLD NEW
   csalgodes help [COMMAND]
   csalgodes --version
 
@@ -137,7 +137,7 @@ remove that too. LETTER stays. Keep it until the move is seen to be right:
 'csalgodes help move-check' says how.
 ";
 
-const MOVE_WEIGH: [u8; 956] = *b"\
+const MOVE_WEIGH: [u8; 1058] = *b"\
 csalgodes move-weigh --from T,F,N --order T,F,N --key K --length L --stamp S
                      --keepers A,B,.. --keeper Y [--replace] FOLDER LETTER
 
@@ -152,31 +152,35 @@ stays, unless --replace is said.
 A sub-letter of another order, key, keeper, stamp or length is answered 16. An
 old keeper that is repeated, missing or not listed is answered 19.
 
+A file that is missing or has not 2048 bytes ends it with 100.
+
 The sub-letters of a new keeper are as good as its letter: remove them once
-they are weighed. 'csalgodes help move-check' says why to weigh them twice.
+they are weighed. No old letter may go before the move is seen to be right:
+'csalgodes help move-check' says how.
 ";
 
-const MOVE_CHECK: [u8; 1183] = *b"\
-csalgodes move-check --order T,F,N --key K FIRST SECOND
+const MOVE_CHECK: [u8; 1090] = *b"\
+csalgodes move-check --from T,F,N --order T,F,N --key K OLD NEW
 
-Joins two trays of moved letters, the folders FIRST and SECOND, and says
-whether both give the same key. The key is written nowhere. It ends with 0
-where they give the same, with 99 where they do not, and with 6, 7 or 8 where
-one of them gives none.
+Joins two trays, the folders OLD and NEW, and says whether both give the same
+key. OLD has letters of the old order, --from, and NEW the moved letters, of
+the new order, --order. The key is written nowhere:
 
-One old keeper that lies spoils a move, and nothing in the letters shows it.
-So before the old letters go, let T+2 old keepers cut, one more than a move
-takes, and let all new keepers weigh the same sub-letters twice, with two
-lists of old keepers that differ in one: FIRST has the letters of one list,
-SECOND those of the other. If both give the same key, and no more than one old
-keeper lied, the move is right. Against F liars take T+F+1 old keepers and F+1
-lists, each different from the first in one old keeper, always another, and
-check the tray of each beside the first. Nobody may cut anew for a list: a lie
-could be fitted to it. Or join the letters, and see that the key still signs
-right: that finds any lie.
+  old key 100 stamp 2 length 32
+  new key 100 stamp 3 length 32
+  the same key
 
-Then store the letters of the first list, and drop those of the others and the
-old ones. The letters of two lists have one stamp, and do not go together.
+It ends with 0 where they give the same, with 99 and 'different keys' where
+they do not, and with 6, 7 or 8 where one of them gives none. Look whether the
+stamps are those of the old letters and of the move.
+
+One old keeper that lies spoils a move, and nothing in the new letters shows
+it. So does one letter that was damaged and made good again, and so do old
+letters of two different cuts. So before the old letters go, a signer collects
+the old letters and the new ones in two trays, and checks them. If the keys
+differ, drop the new letters, and move again with other old keepers, and with
+a stamp above those of both. If they are the same, store the new letters, and
+drop the old ones. Each tray is as good as the key: remove both.
 ";
 
 // What a command does that moves a key.

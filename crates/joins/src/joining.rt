@@ -36,7 +36,7 @@ fn chosen(g: Given, tray: &[u8]) -> Picked {
 }
 
 // How much room a secret takes. Too great a length is refused whatever the room.
-fn room_for(length: usize) -> usize
+pub fn room_for(length: usize) -> usize
     ensures { λ r. ⌜ r ≤ 952 ⌝ }
 {
     if length < 952 { length } else { 952 }

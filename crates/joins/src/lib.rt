@@ -1,4 +1,4 @@
 // The command that joins a tray: which letters, the secret, and what is said of the keepers.
 mod found;
 pub mod joining;
-mod newer;
+pub mod newer;

@@ -54,8 +54,8 @@ const OPTION_WORDS: [u8; 76] =
     *b"--order\n--key\n--stamp\n--keeper\n--length\n--replace\n--from\n--keepers\n--help\n--";
 
 // The first and the second name of each command.
-const NAME_WORDS: [u8; 111] =
-    *b"SECRET\nFOLDER\nLETTER\n\nDESK\nLETTER\nDESK\nLETTER\nTRAY\nSECRET\nBEFORE\nAFTER\nLETTER\nFOLDER\nFOLDER\nLETTER\nFIRST\nSECOND";
+const NAME_WORDS: [u8; 106] =
+    *b"SECRET\nFOLDER\nLETTER\n\nDESK\nLETTER\nDESK\nLETTER\nTRAY\nSECRET\nBEFORE\nAFTER\nLETTER\nFOLDER\nFOLDER\nLETTER\nOLD\nNEW";
 
 pub struct Form {
     pub needs: u32,
@@ -79,7 +79,7 @@ fn form_of_move(command: usize) -> Form {
     if command == MOVE_WEIGH {
         return shaped(223, 255, 2);
     }
-    shaped(3, 3, 2)
+    shaped(67, 67, 2)
 }
 
 // The options as bits: 1 --order, 2 --key, 4 --stamp, 8 --keeper, 16 --length, 32 --replace, 64 --from, 128 --keepers.

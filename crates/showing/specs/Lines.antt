@@ -1,8 +1,8 @@
--- The lines that the program prints of letters and of what differs between trays.
+-- The lines that the program prints of letters, of what differs between trays and of a move that is checked.
 -- Assumes nothing.
 use Prim.Native.Nat.{ℕ}
 use Prim.Native.String.{String}
-use mathlib.Core.Bool.{cond}
+use mathlib.Core.Bool.{Bool, cond}
 use mathlib.Core.List.{List, _++_}
 use lib.Dec.{eqb}
 use Rattle.lines.specs.Text.{text, decimal}
@@ -29,3 +29,11 @@ totalLine count = cond (eqb count 0) (text "no word differs\n") (cond (eqb count
 -- as "trials 2"
 unfoldable pub trialsLine : ℕ → List ℕ
 trialsLine trials = named "trials " trials ++ text "\n"
+
+-- as "old key 100 stamp 2 length 32", where the side is "old"
+unfoldable pub keyLine : List ℕ → ℕ → ℕ → ℕ → List ℕ
+keyLine side key stamp l = side ++ (named " key " key ++ (named " stamp " stamp ++ (named " length " l ++ text "\n")))
+
+-- "the same key" or "different keys"
+unfoldable pub sameLine : Bool → List ℕ
+sameLine same = cond same (text "the same key\n") (text "different keys\n")

@@ -1,11 +1,11 @@
-// The lines that the program csalgodes prints of a letter, of a difference and of a count, each from the start of a room of 128 bytes.
+// The lines that the program csalgodes prints of a letter, of a difference, of a count and of a move that is checked, each from the start of a room of 128 bytes.
 ghost use Prim.Native.Nat.{_+_, _≤_};
 ghost use mathlib.Core.List.{_++_};
 ghost use lib.ListN.{length};
 ghost use Rattle.io.specs.Counts.{Counts};
 ghost use Rattle.lines.specs.Text.{decimal};
 ghost use Rattle.lines.specs.Written.{Written};
-ghost use Rattle.showing.specs.Lines.{letterLine, differenceLine, totalLine, trialsLine};
+ghost use Rattle.showing.specs.Lines.{letterLine, differenceLine, totalLine, trialsLine, keyLine, sameLine};
 use lines::line::put_named;
 use lines::text::put;
 use lines::text::put_decimal;
@@ -81,4 +81,27 @@ pub fn put_trials_line(out: &mut [u8; 128], trials: u32) -> usize
 {
     let next = put_named(out, 0, b"trials ", trials);
     put(out, next, b"\n")
+}
+
+// As "old key 100 stamp 2 length 32", where the side is "old".
+pub fn put_key_line(out: &mut [u8; 128], side: &[u8], key: u32, stamp: u32, l: u32) -> usize
+    requires { ⌜ length (now side) ≤ 3 ⌝ }
+    ensures { λ r. ⌜ Counts r (now (out .exit)) ⌝ }
+    ensures { λ r. ⌜ Written (now (out .entry)) 0 (keyLine (now (side .entry)) key stamp l) (now (out .exit)) r ⌝ }
+{
+    let of_side = put(out, 0, side);
+    let of_key = put_named(out, of_side, b" key ", key);
+    let of_length = put_pair(out, of_key, b" stamp ", stamp, b" length ", l);
+    put(out, of_length, b"\n")
+}
+
+// "the same key" or "different keys".
+pub fn put_same_line(out: &mut [u8; 128], same: bool) -> usize
+    ensures { λ r. ⌜ Counts r (now (out .exit)) ⌝ }
+    ensures { λ r. ⌜ Written (now (out .entry)) 0 (sameLine same) (now (out .exit)) r ⌝ }
+{
+    if same {
+        return put(out, 0, b"the same key\n");
+    }
+    put(out, 0, b"different keys\n")
 }

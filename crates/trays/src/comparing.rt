@@ -63,7 +63,7 @@ fn compare(g: Given, before: &[u8], after: &[u8]) -> i32 {
 }
 
 // Fills one of the trays from the folder that a word names.
-fn fill(at: usize, n: u32, tray: &mut [u8]) -> bool
+pub fn fill(at: usize, n: u32, tray: &mut [u8]) -> bool
     requires { ⌜ length (now tray) ≡ 2048 * n ⌝ }
 {
     let mut name = io::buffer();
