@@ -3,7 +3,7 @@
 use Prim.Native.Nat.{ℕ}
 use Rattle.moving.specs.declared.cutting.Cutting.{Cutting}
 use Rattle.moving.specs.declared.terms.Move.{Move}
-use Rattle.weighing.specs.declared.judging.Weighing.{Weighing}
+use Rattle.sub_letters.specs.declared.judging.Weighing.{Weighing}
 use Rattle.exports.specs.declared.hosts.MoveCutResult.{MoveCutResult}
 use Rattle.exports.specs.declared.hosts.MoveWeighResult.{MoveWeighResult}
 use Rattle.exports.specs.Told.{orderTold, asTold}

@@ -13,10 +13,10 @@ use Rattle.format.specs.ReadingBounds.{small-place, small-place-as}
 use Rattle.tray.specs.Tray.{slotOf}
 use Rattle.moving.specs.declared.terms.Move.{Move}
 use Rattle.moving.specs.Cutting.{cutRefusal, moveCutPlace}
-use Rattle.weighing.specs.declared.judging.Weighing.{Weighing}
-use Rattle.weighing.specs.Subs.{fromsRight}
-use Rattle.weighing.specs.Weighing.{only, orNext, firstSub, faultAt, otherAt, subsAnswer, weighRefusal, weighAnswer}
-use Rattle.weighing.specs.WeighingLaws.{weigh-right}
+use Rattle.sub_letters.specs.declared.judging.Weighing.{Weighing}
+use Rattle.sub_letters.specs.Subs.{fromsRight}
+use Rattle.sub_letters.specs.Judging.{only, orNext, firstSub, faultAt, otherAt, subsAnswer, weighRefusal, weighAnswer}
+use Rattle.sub_letters.specs.JudgingLaws.{weigh-right}
 use Rattle.exports.specs.StorePlace.{small-or-none}
 
 pub small-cut-place : (m : Move) (keeper : ℕ) (letter random tray : List ℕ) → moveCutPlace m keeper letter random tray < 512

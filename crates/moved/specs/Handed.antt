@@ -24,7 +24,7 @@ use Rattle.cut.specs.LetterField.{LetterField}
 use Rattle.cut.specs.OneCut.{OneCut}
 use Rattle.moving.specs.declared.terms.Move.{Move}
 use Rattle.moving.specs.Cutting.{subLetter, subTray}
-use Rattle.weighing.specs.Subs.{subReading, fromAt, fromsOf}
+use Rattle.sub_letters.specs.Subs.{subReading, fromAt, fromsOf}
 use Rattle.moved.specs.Moved.{OneMove, handedTo}
 use Rattle.moved.specs.SubLetters.{sub-reads, slot-sub}
 

@@ -13,7 +13,7 @@ use Rattle.lists.specs.Different.{Different}
 use Rattle.lists.specs.Member.{In, in-getD, in-every}
 use Rattle.header.specs.declared.order.Order.{Order}
 use Rattle.header.specs.Order.{lawfulKeeper}
-use Rattle.weighing.specs.Keepers.{allKeepers, noneIs, differ, eachIn}
+use Rattle.sub_letters.specs.Keepers.{allKeepers, noneIs, differ, eachIn}
 
 pub all-keepers : (order : Order) (xs : List ℕ) → ((x : ℕ) → In x xs → lawfulKeeper order x ≡ true) → allKeepers order xs ≡ true
 unfolding allKeepers

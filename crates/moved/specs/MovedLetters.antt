@@ -18,7 +18,7 @@ use Rattle.shares.specs.ShareWords.{polynomialOf, getD-share-words, share-words
 use Rattle.cut.specs.Cut.{letterOf}
 use Rattle.cut.specs.LetterField.{LetterField}
 use Rattle.moving.specs.declared.terms.Move.{Move}
-use Rattle.weighing.specs.Subs.{fromsOf}
+use Rattle.sub_letters.specs.Subs.{fromsOf}
 use Rattle.weighing.specs.Weighing.{weighedWords, weighedLetter}
 use Rattle.moved.specs.CarriedPolynomials.{length-sums, sums-value}
 use Rattle.moved.specs.Handed.{shares-handed, froms-handed}

@@ -22,7 +22,7 @@ use Rattle.shares.specs.Fills.{unchanged, fills-same}
 use Rattle.moving.specs.declared.cutting.Cutting.{Cutting}
 use Rattle.moving.specs.declared.terms.Move.{Move}
 use Rattle.moving.specs.Cutting.{MoveCutDone}
-use Rattle.weighing.specs.declared.judging.Weighing.{Weighing}
+use Rattle.sub_letters.specs.declared.judging.Weighing.{Weighing}
 use Rattle.weighing.specs.Weighing.{weighedLetter, WeighDone}
 
 -- the cutting

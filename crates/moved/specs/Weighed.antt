@@ -26,9 +26,10 @@ use Rattle.cut.specs.LetterField.{LetterField}
 use Rattle.cut.specs.OneCut.{slot-cut}
 use Rattle.moving.specs.declared.terms.Move.{Move}
 use Rattle.moving.specs.Move.{moveNumber}
-use Rattle.weighing.specs.declared.judging.Weighing.{Weighing}
-use Rattle.weighing.specs.Subs.{subHead, fromAt, fromsOf, steady, fromsRight}
-use Rattle.weighing.specs.Weighing.{weighedLetter, weighRefusal, only, firstSub, faultAt, otherAt, subsAnswer, weighAnswer, WeighDone}
+use Rattle.sub_letters.specs.declared.judging.Weighing.{Weighing}
+use Rattle.sub_letters.specs.Subs.{subHead, fromAt, fromsOf, steady, fromsRight}
+use Rattle.sub_letters.specs.Judging.{weighRefusal, only, firstSub, faultAt, otherAt, subsAnswer, weighAnswer}
+use Rattle.weighing.specs.Weighing.{weighedLetter, WeighDone}
 use Rattle.moved.specs.Handed.{length-handed, read-handed, from-handed, froms-handed, some-block}
 use Rattle.moved.specs.KeeperTests.{all-keepers, different-differ, each-in}
 use Rattle.moved.specs.Moved.{OneMove, handedTo, carriedWords, carriedRandom}

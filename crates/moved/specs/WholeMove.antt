@@ -16,8 +16,9 @@ use Rattle.moving.specs.declared.cutting.Cutting.{Cutting}
 use Rattle.moving.specs.declared.terms.Move.{Move}
 use Rattle.moving.specs.Cutting.{MoveCutDone}
 use Rattle.moving.specs.Move.{oldTold}
-use Rattle.weighing.specs.declared.judging.Weighing.{Weighing}
-use Rattle.weighing.specs.Weighing.{only, WeighDone}
+use Rattle.sub_letters.specs.declared.judging.Weighing.{Weighing}
+use Rattle.sub_letters.specs.Judging.{only}
+use Rattle.weighing.specs.Weighing.{WeighDone}
 use Rattle.moved.specs.CutAgain.{cut-letter-done}
 use Rattle.moved.specs.Moved.{OneMove, handedTo, carriedRandom}
 use Rattle.moved.specs.TheMove.{heldIn, carried-secret}

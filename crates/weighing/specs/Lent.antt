@@ -1,20 +1,15 @@
--- What the functions of a weighing are lent.
+-- Sub-letters to weigh, with the old keepers that they name, and a row for the sums.
 -- Assumes nothing.
-use Prim.Native.Nat.{ℕ, suc, _*_, _<_, _≤_}
+use Prim.Native.Nat.{ℕ, suc, _<_, _≤_}
 use mathlib.Core.Path.{_≡_}
 use mathlib.Core.List.{List}
 use lib.ListN.{length}
 use Rattle.lists.specs.Below.{Below}
 use Rattle.format.specs.Reading.{sharesOf}
 use Rattle.tray.specs.Tray.{slotOf}
-use Rattle.weighing.specs.Subs.{fromsOf}
+use Rattle.sub_letters.specs.Lent.{SubsLent}
+use Rattle.sub_letters.specs.Subs.{fromsOf}
 
--- so many sub-letters, end to end
-pub record SubsLent (letters : List ℕ) (count : ℕ) : Type 0 where
-  pub few : count ≤ 8
-  pub size : 2048 * count ≤ length letters
-
--- sub-letters to weigh, with the old keepers that they name, and a row for the sums
 pub record Weighable (froms letters row : List ℕ) : Type 0 where
   pub named : froms ≡ fromsOf letters (length froms)
   pub lent : SubsLent letters (length froms)

@@ -1,8 +1,4 @@
-pub mod Keepers
-pub mod Subs
 pub mod Lent
 pub mod Weighing
-pub mod SubLaws
-pub mod FirstLaws
 pub mod WeighedRows
 pub mod WeighingLaws

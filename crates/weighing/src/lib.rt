@@ -2,21 +2,19 @@
 ghost use mathlib.Core.Path.{_≡_};
 ghost use lib.ListN.{length};
 ghost use Rattle.field.specs.Modulo.{mod257};
-ghost use Rattle.weighing.specs.Subs.{fromsOf};
-ghost use Rattle.weighing.specs.Weighing.{weighRefusal, WeighDone};
+ghost use Rattle.sub_letters.specs.Judging.{weighRefusal};
+ghost use Rattle.sub_letters.specs.Subs.{fromsOf};
+ghost use Rattle.weighing.specs.Weighing.{WeighDone};
 use crate::filling::fill;
-use crate::judging::Weighing;
-use crate::judging::alone;
-use crate::judging::judge;
-use crate::judging::refusal;
-use crate::keepers::put_keepers;
-use crate::subs::put_froms;
 use moving::terms::Move;
+use sub_letters::judging::Weighing;
+use sub_letters::judging::alone;
+use sub_letters::judging::judge;
+use sub_letters::judging::refusal;
+use sub_letters::keepers::put_keepers;
+use sub_letters::subs::put_froms;
 
 mod filling;
-pub mod judging;
-mod keepers;
-mod subs;
 
 // Judges the sub-letters, and writes the letter where nothing is wrong with them.
 fn weigh_told(

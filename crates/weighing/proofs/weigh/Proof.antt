@@ -5,8 +5,9 @@ use mathlib.Core.Path.{_≡_, sym, _∙_}
 use lib.ListN.{length}
 use lib.Seq.{length-take-le}
 use borrow.Author.Needs.{needs}
-use Rattle.weighing.specs.Weighing.{weighRefusal}
-use Rattle.weighing.specs.WeighingLaws.{weigh-right, weigh-refused}
+use Rattle.sub_letters.specs.Judging.{weighRefusal}
+use Rattle.sub_letters.specs.JudgingLaws.{weigh-right}
+use Rattle.weighing.specs.WeighingLaws.{weigh-refused}
 use Rattle.weighing.proofs.weigh.Statement.{statement}
 use Rattle.weighing.proofs.weigh.Tie as tie
 

@@ -3,7 +3,7 @@
 use mathlib.Core.Path.{_≡_, ap, _∙_}
 use lib.ListN.{length}
 use borrow.Author.Needs.{needs}
-use Rattle.weighing.specs.WeighingLaws.{WeighRight, weigh-right}
+use Rattle.sub_letters.specs.JudgingLaws.{WeighRight, weigh-right}
 use Rattle.weighing.proofs.weigh_lent.Statement.{statement}
 use Rattle.weighing.proofs.weigh_lent.Tie as tie
 

@@ -6,9 +6,10 @@ use lib.ListN.{length}
 use lib.Seq.{length-take-le}
 use borrow.Author.Needs.{needs}
 use Rattle.lists.specs.Listed.{length-listed}
-use Rattle.weighing.specs.declared.judging.Weighing.{Weighing}
-use Rattle.weighing.specs.Subs.{fromsOf}
-use Rattle.weighing.specs.WeighingLaws.{WeighRight, weigh-right, kept-lawful, weighable, weigh-filled, weigh-judged}
+use Rattle.sub_letters.specs.declared.judging.Weighing.{Weighing}
+use Rattle.sub_letters.specs.Subs.{fromsOf}
+use Rattle.sub_letters.specs.JudgingLaws.{WeighRight, weigh-right, kept-lawful}
+use Rattle.weighing.specs.WeighingLaws.{weighable, weigh-filled, weigh-judged}
 use Rattle.weighing.proofs.weigh_told.Statement.{statement}
 use Rattle.weighing.proofs.weigh_told.Tie as tie
 

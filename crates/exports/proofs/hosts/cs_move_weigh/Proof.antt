@@ -4,7 +4,7 @@ use native.Mathlib.Omega.{arith}
 use mathlib.Core.Path.{ap}
 use borrow.Author.Needs.{needs}
 use denote.Ref.{now}
-use Rattle.weighing.specs.declared.judging.Weighing.{Weighing}
+use Rattle.sub_letters.specs.declared.judging.Weighing.{Weighing}
 use Rattle.exports.specs.MovePlaces.{small-weighing}
 use Rattle.exports.proofs.hosts.cs_move_weigh.Statement.{statement}
 use Rattle.exports.proofs.hosts.cs_move_weigh.Tie as tie
