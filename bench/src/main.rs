@@ -1,7 +1,8 @@
 //! Times the library's cut and join beside the second program's best loops, gfshare and ssss, its pick beside
 //! the joins that it takes, both halves of a move beside its own cut and join, its comparison of trays beside
-//! memcmp, and its reading of letters and sealing of a block alone. Reads the facts about this run, and writes the machine's own section of the page and its
-//! picture. Ends with 1 if a limit is not met, and with another number than 0 if nothing was written.
+//! memcmp, and its reading of letters and sealing of a block alone. Reads the facts about this run, and writes
+//! the machine's own section of the page and its picture. Ends with 1 if a limit is not met, and with another
+//! number than 0 if nothing was written.
 
 mod case;
 mod comparing;
