@@ -34,7 +34,7 @@ fn run_move(command: usize, g: Given) -> i32 {
     if command == form::MOVE_WEIGH {
         return moves::gathering::run(g);
     }
-    moves::checking::run(g)
+    checks::run(g)
 }
 
 fn run_given(command: usize, g: Given) -> i32 {

@@ -39,7 +39,6 @@ fn cut_into(g: Given, n: u32, letter: &[u8], random: &[u16], tray: &mut [u8]) ->
 }
 
 fn cut_drawn(g: Given, letter: &[u8], random: &mut [u16]) -> i32 {
-    let unused = 7;
     if !fill(random) {
         return trouble(b"the system's source of random bytes", b"gives none");
     }

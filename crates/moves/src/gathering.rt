@@ -39,50 +39,43 @@ fn is_put(name: &[u8], bytes: &[u8], letters: &mut [u8], at: usize) -> bool
     true
 }
 
-// Reads a sub-letter from its file. All that are listed are needed, so that none counts as empty.
-fn is_read(name: &[u8], letters: &mut [u8], at: usize) -> bool
-    requires { ⌜ at + 2048 ≤ length (now letters) ⌝ }
-    ensures { λ _. ⌜ length (now (letters .exit)) ≡ length (now (letters .entry)) ⌝ }
-{
-    let mut room = [0u8; 2049];
-    let loaded = load(name, true, &mut room);
-    let count = loaded.count;
-    let got = loaded.got;
+// Says why a file was not read.
+fn say_unread(name: &[u8], got: Got) -> i32 {
     match got {
-        Got::Read => is_put(name, &room[..count], letters, at),
-        Got::Missing => {
-            refused(
-                name,
-                b"is not there: ask this old keeper for its sub-letter",
-            );
-            false
-        }
-        Got::NoFile => {
-            refused(
-                name,
-                b"is no plain file: put the sub-letter of this old keeper in its place",
-            );
-            false
-        }
-        Got::Trouble => {
-            trouble(name, b"cannot be read");
-            false
-        }
+        Got::Missing => refused(
+            name,
+            b"is not there: ask this old keeper for its sub-letter",
+        ),
+        Got::NoFile => refused(
+            name,
+            b"is no plain file: put the sub-letter of this old keeper in its place",
+        ),
+        _ => trouble(name, b"cannot be read"),
     }
 }
 
-// Reads the sub-letter of an old keeper.
+// Reads the sub-letter of an old keeper from its file. All that are listed are needed, so that none counts as empty.
 fn is_loaded(folder: &[u8], keeper: u32, letters: &mut [u8], at: usize) -> bool
     requires { ⌜ at + 2048 ≤ length (now letters) ⌝ }
     ensures { λ _. ⌜ length (now (letters .exit)) ≡ length (now (letters .entry)) ⌝ }
 {
     let mut name = io::buffer();
-    let count = slot(folder, keeper, &mut name);
-    if count == 0 {
+    let named = slot(folder, keeper, &mut name);
+    if named == 0 {
         refused(folder, b"is too long a name for a folder of sub-letters");
         return false;
     }
-    is_read(&name[..count], letters, at)
+    let mut room = [0u8; 2049];
+    let loaded = load(&name[..named], true, &mut room);
+    let count = loaded.count;
+    let got = loaded.got;
+    match got {
+        Got::Read => is_put(&name[..named], &room[..count], letters, at),
+        _ => {
+            say_unread(&name[..named], got);
+            false
+        }
+    }
 }
 
 // Reads the sub-letters of all old keepers that are listed, one behind the other.
@@ -104,14 +97,6 @@ fn is_of_one(number: u32) -> bool {
     number == 16 || (number >= 9 && number <= 13)
 }
 
-fn say_of(name: &[u8], number: u32) {
-    let mut out = [0u8; 8192];
-    let named = four(&mut out, b"csalgodes: ", name, b": number ", b"");
-    let numbered = add_number(&mut out, named, number);
-    let count = add(&mut out, numbered, b" is of this sub-letter");
-    say(&mut out, count);
-}
-
 // Says which sub-letter a number is of, where it is of one.
 fn say_which(folder: &[u8], keepers: &[u32], letter: usize, number: u32) {
     if !is_of_one(number) {
@@ -121,8 +106,12 @@ fn say_which(folder: &[u8], keepers: &[u32], letter: usize, number: u32) {
         return;
     }
     let mut name = io::buffer();
-    let count = slot(folder, keepers[letter], &mut name);
-    say_of(&name[..count], number);
+    let named = slot(folder, keepers[letter], &mut name);
+    let mut out = [0u8; 8192];
+    let next = four(&mut out, b"csalgodes: ", &name[..named], b": number ", b"");
+    let numbered = add_number(&mut out, next, number);
+    let count = add(&mut out, numbered, b" is of this sub-letter");
+    say(&mut out, count);
 }
 
 fn weigh(g: Given, folder: &[u8], keepers: &[u32], letters: &[u8], out: &[u8]) -> i32 {

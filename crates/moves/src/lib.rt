@@ -1,4 +1,3 @@
-// The commands that move a key to new keepers: an old keeper's letter cut anew, sub-letters weighed into a new keeper's letter, and a look at both ends.
-pub mod checking;
+// The commands that move a key to new keepers: an old keeper's letter cut anew, and sub-letters weighed into a new keeper's letter.
 pub mod cutting;
 pub mod gathering;

@@ -3,6 +3,7 @@
 use Prim.Native.Nat.{_-_, _≤_}
 use mathlib.Core.Path.{_≡_}
 use lib.ListN.{length}
+use native.Mathlib.Omega.{arith}
 use borrow.Author.Needs.{needs}
 use Rattle.moves.proofs.gathering.are_loaded.Statement.{statement}
 use Rattle.moves.proofs.gathering.are_loaded.Tie as tie
@@ -17,16 +18,16 @@ loop-holds : tie.Need-loop-holds Inv-loop μ-loop
 loop-holds c = search needs
 
 mul-is-loaded : tie.Need-mul-is-loaded Inv-loop μ-loop
-mul-is-loaded c = search needs
+mul-is-loaded c = omega arith
 
 shared-slice-read-is-loaded : tie.Need-shared-slice-read-is-loaded Inv-loop μ-loop
-shared-slice-read-is-loaded c = search needs
+shared-slice-read-is-loaded c = omega arith
 
 mul-is-loaded-2 : tie.Need-mul-is-loaded-2 Inv-loop μ-loop
-mul-is-loaded-2 c = search needs
+mul-is-loaded-2 c = omega arith
 
 is-loaded-requires : tie.Need-is-loaded-requires Inv-loop μ-loop
-is-loaded-requires c κs = search needs
+is-loaded-requires c κs = omega arith
 
 same-length : tie.Need-same-length Inv-loop μ-loop
 same-length c = search needs
@@ -35,10 +36,10 @@ returns : tie.Need-returns Inv-loop μ-loop
 returns c = search needs
 
 add-k : tie.Need-add-k Inv-loop μ-loop
-add-k c = search needs
+add-k c = omega arith
 
 loop-less : tie.Need-loop-less Inv-loop μ-loop
-loop-less c = search needs
+loop-less c = omega arith
 
 loop-again : tie.Need-loop-again Inv-loop μ-loop
 loop-again c = search needs

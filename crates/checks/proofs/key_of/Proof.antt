@@ -1,12 +1,12 @@
--- `moves::checking::key_of` meets its contract: the tray is the front of one of sixteen slots.
+-- `checks::key_of` meets its contract: the tray is the front of one of sixteen slots.
 -- Assumes nothing.
 use Prim.Native.Nat.{_*_}
 use mathlib.Core.Path.{sym}
 use native.Mathlib.Omega.{arith}
 use Rattle.join.specs.Room.{length-front}
 use borrow.Author.Needs.{needs}
-use Rattle.moves.proofs.checking.key_of.Statement.{statement}
-use Rattle.moves.proofs.checking.key_of.Tie as tie
+use Rattle.checks.proofs.key_of.Statement.{statement}
+use Rattle.checks.proofs.key_of.Tie as tie
 
 slots-of-requires : tie.Need-slots-of-requires
 slots-of-requires c κs = search needs

@@ -1,10 +1,10 @@
--- `moves::checking::find` meets its contract: the key's room is the front of one for any key.
+-- `checks::find` meets its contract: the key's room is the front of one for any key.
 -- Assumes nothing.
 use native.Mathlib.Omega.{arith}
 use Rattle.io.proofs.Counting.{front}
 use borrow.Author.Needs.{needs}
-use Rattle.moves.proofs.checking.find.Statement.{statement}
-use Rattle.moves.proofs.checking.find.Tie as tie
+use Rattle.checks.proofs.find.Statement.{statement}
+use Rattle.checks.proofs.find.Tie as tie
 
 pick-requires : tie.Need-pick-requires
 pick-requires c κs = search needs
