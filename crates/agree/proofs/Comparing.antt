@@ -7,13 +7,13 @@ use mathlib.Core.List.{List}
 use native.Mathlib.Omega.{arith}
 use lib.ListN.{length, get_or, take}
 use lib.Seq.{get_or-take, length-take-le}
-use Rattle.field.specs.Laws.{mod257-field}
+use Rattle.field.specs.Laws.{mod257_field}
 use Rattle.field.specs.Modulo.{mod257}
-use Rattle.weigh.specs.Weigh.{carried, rowWord, Carriage}
-use Rattle.search.specs.Base.{Base, base-length, base-keepers, keeper-points}
-use Rattle.agree.specs.InStepLaws.{Compared, compared-start, compared-other, compared-next, compared-end}
+use Rattle.weigh.specs.Weigh.{carried, row_word, Carriage}
+use Rattle.search.specs.Base.{Base, base_length, base_keepers, keeper_points}
+use Rattle.agree.specs.InStepLaws.{Compared, compared-start, compared-other, compared_next, compared_end}
 use Rattle.agree.specs.Kept.{Alike, InStep}
-use Rattle.agree.specs.Rows.{Rows, row-word-lt}
+use Rattle.agree.specs.Rows.{Rows, row_word_lt}
 
 pub record Comparing (t : ℕ) (set : ℕ → Bool) (rows : List ℕ) (start l : ℕ) (xs row : List ℕ) (end k : ℕ) : Type 0 where
   pub room : length row ≡ 952
@@ -21,44 +21,44 @@ pub record Comparing (t : ℕ) (set : ℕ → Bool) (rows : List ℕ) (start l :
   pub ends : end ≤ l
   pub within : k ≤ 16
   pub base : Base t 16 set xs
-  pub compared : Compared mod257 set xs (rowWord rows) start end k
+  pub compared : Compared mod257 set xs (row_word rows) start end k
 
 -- the last of a base, where it was gathered
 last : (t : ℕ) (who : List ℕ) → get_or (take (t + 1) who) t 0 ≡ get_or who t 0
 last t who = get_or-take (t + 1) who t 0 (omega arith)
 
-pub last-keeper : {t : ℕ} {set : ℕ → Bool} (who : List ℕ) → Base t 16 set (take (t + 1) who) → get_or who t 0 ≤ 16
-last-keeper {t} who b = let k = base-keepers b t (omega (arith, base-length b)) in omega (arith, last t who)
+pub last_keeper : {t : ℕ} {set : ℕ → Bool} (who : List ℕ) → Base t 16 set (take (t + 1) who) → get_or who t 0 ≤ 16
+last_keeper {t} who b = let k = base_keepers b t (omega (arith, base_length b)) in omega (arith, last t who)
 
 module _ {t : ℕ} {set : ℕ → Bool} {rows : List ℕ} {start l : ℕ} (R : Rows rows) where
-  pub comparing-start : (who row : List ℕ) → length row ≡ 952 → start ≤ l → Base t 16 set (take (t + 1) who)
+  pub comparing_start : (who row : List ℕ) → length row ≡ 952 → start ≤ l → Base t 16 set (take (t + 1) who)
       → Comparing t set rows start l (take (t + 1) who) row l (get_or who t 0)
-  comparing-start who row e h b = record {
+  comparing_start who row e h b = record {
     room = e;
     starts = h;
     ends = omega arith;
-    within = last-keeper who b;
+    within = last_keeper who b;
     base = b;
     compared =
-        subst (Compared mod257 set (take (t + 1) who) (rowWord rows) start l) (last t who)
-        (compared-start mod257-field b keeper-points (rowWord rows) (row-word-lt R) start l);
+        subst (Compared mod257 set (take (t + 1) who) (row_word rows) start l) (last t who)
+        (compared-start mod257_field b keeper_points (row_word rows) (row_word_lt R) start l);
   }
 
   module _ {xs row : List ℕ} {end k : ℕ} (c : Comparing t set rows start l xs row end k) where
-    pub comparing-part : l ≤ 952 → length (take end row) ≡ end
-    comparing-part h = length-take-le end row (omega (arith, c.ends, c.room))
+    pub comparing_part : l ≤ 952 → length (take end row) ≡ end
+    comparing_part h = length-take-le end row (omega (arith, c.ends, c.room))
 
-    pub comparing-carriage : t ≤ 7 → l ≤ 952 → Carriage xs rows (take end row)
-    comparing-carriage small h = record {
-      keepers = base-keepers c.base;
-      few = omega (arith, base-length c.base);
+    pub comparing_carriage : t ≤ 7 → l ≤ 952 → Carriage xs rows (take end row)
+    comparing_carriage small h = record {
+      keepers = base_keepers c.base;
+      few = omega (arith, base_length c.base);
       whole = R.whole;
       words = R.words;
-      room = omega (arith, comparing-part h, c.ends);
+      room = omega (arith, comparing_part h, c.ends);
     }
 
-    pub comparing-other : (row' : List ℕ) (end' : ℕ) → k < 16 → set (k + 1) ≡ false → row' ≡ row → end' ≡ end → Comparing t set rows start l xs row' end' (k + 1)
-    comparing-other row' end' h e r s = rw (r, s) (record {
+    pub comparing_other : (row' : List ℕ) (end' : ℕ) → k < 16 → set (k + 1) ≡ false → row' ≡ row → end' ≡ end → Comparing t set rows start l xs row' end' (k + 1)
+    comparing_other row' end' h e r s = rw (r, s) (record {
       room = c.room;
       starts = c.starts;
       ends = c.ends;
@@ -67,21 +67,21 @@ module _ {t : ℕ} {set : ℕ → Bool} {rows : List ℕ} {start l : ℕ} (R : R
       compared = compared-other c.compared e;
     })
 
-    pub comparing-next : (row' : List ℕ) (end' : ℕ) → l ≤ 952 → k < 16 → length row' ≡ 952
-        → Alike (λ j. carried mod257 xs (λ a. rowWord rows a j) (k + 1)) (rowWord rows (k + 1)) start (length (take end row)) end'
+    pub comparing_next : (row' : List ℕ) (end' : ℕ) → l ≤ 952 → k < 16 → length row' ≡ 952
+        → Alike (λ j. carried mod257 xs (λ a. row_word rows a j) (k + 1)) (row_word rows (k + 1)) start (length (take end row)) end'
         → Comparing t set rows start l xs row' end' (k + 1)
-    comparing-next row' end' small h r a =
-        let a' = rw (comparing-part small) at a in
+    comparing_next row' end' small h r a =
+        let a' = rw (comparing_part small) at a in
         record {
           room = r;
           starts = a.starts;
           ends = omega (arith, a'.ends, c.ends);
           within = omega arith;
           base = c.base;
-          compared = compared-next c.compared a';
+          compared = compared_next c.compared a';
         }
 
-    pub comparing-end : 16 ≤ k → InStep mod257 t 16 set (rowWord rows) start l end
-    comparing-end h =
+    pub comparing_end : 16 ≤ k → InStep mod257 t 16 set (row_word rows) start l end
+    comparing_end h =
         let e : k ≡ 16 = omega (arith, c.within) in
-        compared-end mod257-field c.base keeper-points (rowWord rows) (row-word-lt R) start end l c.starts c.ends (rw e at c.compared)
+        compared_end mod257_field c.base keeper_points (row_word rows) (row_word_lt R) start end l c.starts c.ends (rw e at c.compared)

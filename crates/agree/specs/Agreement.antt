@@ -1,7 +1,7 @@
 -- What it is for polynomials to match letters. Said of a scan: which of the keepers 1..n are usable, and word i of keeper x.
 -- Assumes nothing.
 use Rattle.std.specs.Prelude.{ℕ, ◌≤◌, ◌<◌, ◌≡◌, Bool, ◌&&◌, List, [], map, eqb, leb, length, get_or}
-use Rattle.lists.specs.AllTo.{allTo}
+use Rattle.lists.specs.AllTo.{all_to}
 use Rattle.lists.specs.Count.{count}
 use Rattle.lists.specs.From.{from}
 use Rattle.algebra.specs.Field.{Ops}
@@ -16,7 +16,7 @@ pub record Polynomials (O : Ops) (t l : ℕ) (ps : List (List ℕ)) : Type 0 whe
 
 -- "A letter matches if all its L words do."
 unfoldable pub matches : Ops → List (List ℕ) → ℕ → (ℕ → ℕ → ℕ) → ℕ → Bool
-matches O ps l word x = allTo (λ i. eqb (eval O (get_or ps i []) x) (word x i)) l
+matches O ps l word x = all_to (λ i. eqb (eval O (get_or ps i []) x) (word x i)) l
 
 -- the usable keepers that match
 abbrev pub agreeing : Ops → (ℕ → Bool) → (ℕ → ℕ → ℕ) → ℕ → List (List ℕ) → ℕ → Bool
@@ -32,12 +32,12 @@ pub record Reaches (O : Ops) (t f n : ℕ) (usable : ℕ → Bool) (word : ℕ �
   pub enough : needed t f n usable ≤ count (agreeing O usable word l ps) (from 1 n)
 
 -- the polynomials of some keepers: through their letters' words, one for each of l words
-abbrev pub polynomialsOf : Ops → (ℕ → ℕ → ℕ) → ℕ → List ℕ → List (List ℕ)
-polynomialsOf O word l xs = map (λ i. interpolate O xs (λ x. word x i)) (from 0 l)
+abbrev pub polynomials_of : Ops → (ℕ → ℕ → ℕ) → ℕ → List ℕ → List (List ℕ)
+polynomials_of O word l xs = map (λ i. interpolate O xs (λ x. word x i)) (from 0 l)
 
 -- "whose polynomials match at least need letters"
 unfoldable pub reaching : Ops → ℕ → ℕ → ℕ → (ℕ → Bool) → (ℕ → ℕ → ℕ) → ℕ → List ℕ → Bool
-reaching O t f n usable word l xs = leb (needed t f n usable) (count (agreeing O usable word l (polynomialsOf O word l xs)) (from 1 n))
+reaching O t f n usable word l xs = leb (needed t f n usable) (count (agreeing O usable word l (polynomials_of O word l xs)) (from 1 n))
 
 -- the constants: the polynomials' values at zero
 abbrev pub constants : List (List ℕ) → List ℕ

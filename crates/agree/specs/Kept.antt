@@ -3,7 +3,7 @@
 use Rattle.std.specs.Prelude.{ℕ, ◌^◌, ◌≤◌, ◌<◌, ◌≡◌, Bool, true, List}
 use Rattle.lists.specs.Count.{count}
 use Rattle.lists.specs.From.{from}
-use Rattle.lists.specs.KeeperSet.{keeperSet, member}
+use Rattle.lists.specs.KeeperSet.{keeper_set, member}
 use Rattle.lists.specs.Member.{In}
 use Rattle.algebra.specs.Field.{Ops}
 use Rattle.algebra.specs.Poly.{Degree}
@@ -41,7 +41,7 @@ module _ (O : Ops) (t f n : ℕ) (usable : ℕ → Bool) (words : ℕ → ℕ �
   pub record Agreed (set : ℕ) : Type 0 where
     pub polynomials : List (List ℕ)
     pub reaches : Reaches O t f n usable words l polynomials
-    pub agree : set ≡ keeperSet (agreeing O usable words l polynomials) n
+    pub agree : set ≡ keeper_set (agreeing O usable words l polynomials) n
 
   -- the empty set where no polynomials reach need, and else the keepers that match those that do
   pub record Found (set : ℕ) : Type 0 where

@@ -7,7 +7,7 @@ ghost use Rattle.lists.specs.Listed.{listed};
 ghost use Rattle.algebra.specs.Agreement.{need};
 ghost use Rattle.lists.specs.KeeperSet.{member};
 ghost use Rattle.field.specs.Modulo.{mod257};
-ghost use Rattle.weigh.specs.Weigh.{rowWord};
+ghost use Rattle.weigh.specs.Weigh.{row_word};
 ghost use Rattle.agree.specs.Kept.{Found};
 ghost use Rattle.agree.specs.Rows.{Rows};
 ghost use Rattle.search.specs.Search.{Narrows};
@@ -47,7 +47,7 @@ fn narrowed(t: usize, needed: u32, set: u16, rows: &[u16], i: usize) -> u16
     requires fact_3 { t ≤ 7 }
     requires fact_4 { t + 1 ≤ needed }
     requires fact_5 { needed ≤ ones set }
-    ensures { Narrows mod257 t 16 needed (member set) (λ x. rowWord rows.now x i) result }
+    ensures { Narrows mod257 t 16 needed (member set) (λ x. row_word rows.now x i) result }
 {
     let words = column(rows, i);
     let skips = (u16::count_ones(set) - needed) as usize;
@@ -61,7 +61,7 @@ pub fn agreement(t: usize, f: usize, usable: u16, rows: &[u16], l: usize) -> u16
     requires fact_3 { f ≤ t }
     requires fact_4 { l ≤ 952 }
     requires fact_5 { t + f + 1 ≤ count (member usable) (from 1 16) }
-    ensures { Found mod257 t f 16 (member usable) (rowWord rows.now) l result }
+    ensures { Found mod257 t f 16 (member usable) (row_word rows.now) l result }
 {
     let needed = need_of(u16::count_ones(usable), t, f);
     let mut set = usable;

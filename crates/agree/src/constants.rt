@@ -2,7 +2,7 @@
 ghost use Rattle.std.specs.Prelude.{◌+◌, ◌≤◌, length};
 ghost use Rattle.std.specs.Int.Count.{ones};
 ghost use Rattle.field.specs.Modulo.{mod257};
-ghost use Rattle.weigh.specs.Weigh.{rowWord};
+ghost use Rattle.weigh.specs.Weigh.{row_word};
 ghost use Rattle.agree.specs.Recovers.{Recovers};
 ghost use Rattle.agree.specs.Rows.{Rows};
 
@@ -15,7 +15,7 @@ pub fn constants_of(t: usize, set: u16, rows: &[u16], row: &mut [u16])
     requires fact_2 { t ≤ 7 }
     requires fact_3 { t + 1 ≤ ones set }
     requires fact_4 { length row.old ≤ 952 }
-    ensures { Recovers mod257 t 16 set (rowWord rows.now) (length row.old) row.new }
+    ensures { Recovers mod257 t 16 set (row_word rows.now) (length row.old) row.new }
 {
     let base = first(set, t);
     carry_row(&base[..t + 1], rows, 0, row);

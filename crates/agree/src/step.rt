@@ -2,9 +2,9 @@
 ghost use Rattle.std.specs.Prelude.{◌≡◌, ◌+◌, ◌<◌, ◌≤◌, length, get_or};
 ghost use Rattle.std.specs.Int.Count.{ones};
 ghost use Rattle.lists.specs.KeeperSet.{member};
-ghost use Rattle.lists.specs.SameBytes.{sameBytes};
+ghost use Rattle.lists.specs.SameBytes.{same_bytes};
 ghost use Rattle.field.specs.Modulo.{mod257};
-ghost use Rattle.weigh.specs.Weigh.{carried, rowWord, Carriage};
+ghost use Rattle.weigh.specs.Weigh.{carried, row_word, Carriage};
 ghost use Rattle.agree.specs.Kept.{Alike, InStep};
 ghost use Rattle.agree.specs.Rows.{Rows};
 
@@ -14,7 +14,7 @@ use weigh::carry_row;
 // Whether two rows of one length are the same. Every word is looked at, so that many can be looked at together.
 fn same_words(a: &[u16], b: &[u16]) -> bool
     requires { length a.now ≡ length b.now }
-    ensures { result ≡ sameBytes a.now b.now }
+    ensures { result ≡ same_bytes a.now b.now }
 {
     let mut same = true;
     let mut i = 0;
@@ -51,7 +51,7 @@ fn row_in_step(points: &[u16], rows: &[u16], k: usize, start: usize, row: &mut [
     requires fact_1 { Carriage points.now rows.now row.old }
     requires fact_2 { k < 16 }
     requires fact_3 { start ≤ length row.old }
-    ensures { Alike (λ j. carried mod257 points.now (λ a. rowWord rows.now a j) (k + 1)) (rowWord rows.now (k + 1)) start (length row.old) result }
+    ensures { Alike (λ j. carried mod257 points.now (λ a. row_word rows.now a j) (k + 1)) (row_word rows.now (k + 1)) start (length row.old) result }
 {
     carry_row(points, rows, k as u16 + 1, row);
     let at = 952 * k;
@@ -65,7 +65,7 @@ pub fn in_step(t: usize, set: u16, rows: &[u16], start: usize, l: usize) -> usiz
     requires fact_2 { t + 1 ≤ ones set }
     requires fact_3 { Rows rows.now }
     requires fact_4 { (start ≤ l) × (l ≤ 952) }
-    ensures { InStep mod257 t 16 (member set) (rowWord rows.now) start l result }
+    ensures { InStep mod257 t 16 (member set) (row_word rows.now) start l result }
 {
     let base = first(set, t);
     let mut row = [0u16; 952];

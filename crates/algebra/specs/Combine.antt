@@ -26,12 +26,12 @@ combine O ys fs (suc k) = O.add (combine O ys fs k) (O.mul (get_or ys k 0) (get_
 abbrev pub factors : Ops → List ℕ → ℕ → List ℕ
 factors O xs x = map (λ a. factor O xs a x) xs
 
-pub combine-same : (O : Ops) (ys ys' fs fs' : List ℕ) (k : ℕ)
+pub combine_same : (O : Ops) (ys ys' fs fs' : List ℕ) (k : ℕ)
     → ((i : ℕ) → i < k → get_or ys i 0 ≡ get_or ys' i 0) → ((i : ℕ) → i < k → get_or fs i 0 ≡ get_or fs' i 0) → combine O ys fs k ≡ combine O ys' fs' k
 unfolding combine
-combine-same O ys ys' fs fs' zero hy hf = refl
-combine-same O ys ys' fs fs' (suc k) hy hf =
-    ap₂ O.add (combine-same O ys ys' fs fs' k (λ i l. hy i (omega arith)) (λ i l. hf i (omega arith))) (ap₂ O.mul (hy k (omega arith)) (hf k (omega arith)))
+combine_same O ys ys' fs fs' zero hy hf = refl
+combine_same O ys ys' fs fs' (suc k) hy hf =
+    ap₂ O.add (combine_same O ys ys' fs fs' k (λ i l. hy i (omega arith)) (λ i l. hf i (omega arith))) (ap₂ O.mul (hy k (omega arith)) (hf k (omega arith)))
 
 module _ {O : Ops} (F : IsField O) where
   infixl 60 ◌⊕◌
@@ -53,9 +53,9 @@ module _ {O : Ops} (F : IsField O) where
     combine-eval = combine-map (eval O p) (λ a. factor O xs a x) xs ∙ sym (lagrange F xs p x P l b)
 
     -- the same of lists known by their places, which may be longer
-    pub combine-value : (ys fs : List ℕ) → ((i : ℕ) → i < length xs → get_or ys i 0 ≡ eval O p (get_or xs i 0))
+    pub combine_value : (ys fs : List ℕ) → ((i : ℕ) → i < length xs → get_or ys i 0 ≡ eval O p (get_or xs i 0))
         → ((i : ℕ) → i < length xs → get_or fs i 0 ≡ factor O xs (get_or xs i 0) x) → combine O ys fs (length xs) ≡ eval O p x
-    combine-value ys fs hy hf =
-        combine-same O ys (map (eval O p) xs) fs (factors O xs x) (length xs)
+    combine_value ys fs hy hf =
+        combine_same O ys (map (eval O p) xs) fs (factors O xs x) (length xs)
         (λ i h. hy i h ∙ sym (get_d_map (eval O p) xs i h)) (λ i h. hf i h ∙ sym (get_d_map (λ a. factor O xs a x) xs i h))
         ∙ combine-eval

@@ -19,17 +19,17 @@ module _ (O : Ops) where
   -- the laws of a field: results lie below q, sums and products are as one expects, and every number but 0 has an inverse
   pub record IsField : Type 0 where
     pub minus_one : ℕ
-    pub one-lt : 1 < q
-    pub add-lt : (a b : ℕ) → a ⊕ b < q
-    pub sub-lt : (a b : ℕ) → a ⊖ b < q
-    pub mul-lt : (a b : ℕ) → a ⊗ b < q
-    pub inv-lt : (a : ℕ) → inv a < q
+    pub one_lt : 1 < q
+    pub add_lt : (a b : ℕ) → a ⊕ b < q
+    pub sub_lt : (a b : ℕ) → a ⊖ b < q
+    pub mul_lt : (a b : ℕ) → a ⊗ b < q
+    pub inv_lt : (a : ℕ) → inv a < q
     pub add_comm : (a b : ℕ) → a ⊕ b ≡ b ⊕ a
     pub add_assoc : (a b c : ℕ) → a ⊕ b ⊕ c ≡ a ⊕ (b ⊕ c)
     pub add-zero : (a : ℕ) → a < q → a ⊕ 0 ≡ a
     pub mul_comm : (a b : ℕ) → a ⊗ b ≡ b ⊗ a
     pub mul_assoc : (a b c : ℕ) → a ⊗ b ⊗ c ≡ a ⊗ (b ⊗ c)
-    pub mul-one : (a : ℕ) → a < q → a ⊗ 1 ≡ a
+    pub mul_one : (a : ℕ) → a < q → a ⊗ 1 ≡ a
     pub mul-add : (a b c : ℕ) → a ⊗ (b ⊕ c) ≡ a ⊗ b ⊕ a ⊗ c
     pub sub_as_add : (a b : ℕ) → a ⊖ b ≡ a ⊕ minus_one ⊗ b
     pub sub_self : (a : ℕ) → a ⊖ a ≡ 0

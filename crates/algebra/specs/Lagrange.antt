@@ -7,13 +7,13 @@ use mathlib.Core.List.{List, [], ◌∷◌}
 use Rattle.lists.specs.Below.{Below}
 use Rattle.lists.specs.Member.{In}
 use Rattle.algebra.specs.Divide.{quotient, length-quotient, below_quotient, eval-quotient}
-use Rattle.algebra.specs.Factor.{factor, factor-self, factor-other}
+use Rattle.algebra.specs.Factor.{factor, factor_self, factor-other}
 use Rattle.algebra.specs.Field.{Ops, IsField}
-use Rattle.algebra.specs.Points.{Points, points-head, points-tail, points-skip, points-apart, points-in}
-use Rattle.algebra.specs.Poly.{eval, eval-lt}
-use Rattle.algebra.specs.Ratio.{ratio, ratio-two, ratio-three}
-use Rattle.algebra.specs.Ring.{ring, zero-mul, one-mul, sub-not-zero}
-use Rattle.algebra.specs.Total.{total, total-same, total-add, total-mul}
+use Rattle.algebra.specs.Points.{Points, points_head, points_tail, points_skip, points_apart, points_in}
+use Rattle.algebra.specs.Poly.{eval, eval_lt}
+use Rattle.algebra.specs.Ratio.{ratio, ratio_two, ratio_three}
+use Rattle.algebra.specs.Ring.{ring, zero-mul, one_mul, sub_not_zero}
+use Rattle.algebra.specs.Total.{total, total_same, total-add, total-mul}
 
 module _ {O : Ops} (F : IsField O) where
   infixl 60 ◌⊕◌ ◌⊖◌
@@ -21,9 +21,9 @@ module _ {O : Ops} (F : IsField O) where
   open O use {q, add as ◌⊕◌, sub as ◌⊖◌, mul as ◌⊗◌, inv}
 
   -- a sum over xs of r times f and s times g
-  total-two : (h f g : ℕ → ℕ) (r s : ℕ) (xs : List ℕ) → ((x : ℕ) → In x xs → h x ≡ r ⊗ f x ⊕ s ⊗ g x) → total O h xs ≡ r ⊗ total O f xs ⊕ s ⊗ total O g xs
-  total-two h f g r s xs e =
-      total-same O h (λ x. r ⊗ f x ⊕ s ⊗ g x) xs e
+  total_two : (h f g : ℕ → ℕ) (r s : ℕ) (xs : List ℕ) → ((x : ℕ) → In x xs → h x ≡ r ⊗ f x ⊕ s ⊗ g x) → total O h xs ≡ r ⊗ total O f xs ⊕ s ⊗ total O g xs
+  total_two h f g r s xs e =
+      total_same O h (λ x. r ⊗ f x ⊕ s ⊗ g x) xs e
       ∙ total-add F (λ x. r ⊗ f x) (λ x. s ⊗ g x) xs
       ∙ ap₂ O.add (total-mul F r f xs) (total-mul F s g xs)
 
@@ -33,11 +33,11 @@ module _ {O : Ops} (F : IsField O) where
   share : (u v m n e : ℕ) → (u ⊗ m ⊕ v ⊗ n) ⊗ e ≡ u ⊗ (m ⊗ e) ⊕ v ⊗ (n ⊗ e)
   share u v m n e = simp (ring, F)
 
-  ones-point : (a b c x : ℕ) (cs : List ℕ) → Points q (a ∷ c ∷ cs) → In b cs
+  ones_point : (a b c x : ℕ) (cs : List ℕ) → Points q (a ∷ c ∷ cs) → In b cs
       → ratio O a b x ⊗ factor O (c ∷ cs) b x ≡ ratio O c a x ⊗ (ratio O a b x ⊗ factor O cs b x) ⊕ ratio O a c x ⊗ (ratio O c b x ⊗ factor O cs b x)
-  ones-point a b c x cs P m =
-      let nbc = points-apart (points-tail P) b m in
-      let three = ratio-three F a b c x (points-head P) (points-in P b (inr (inr m))) (points-head (points-tail P)) (λ e. points-apart P c (inl refl) (sym e)) (points-apart P b (inr m)) nbc in
+  ones_point a b c x cs P m =
+      let nbc = points_apart (points_tail P) b m in
+      let three = ratio_three F a b c x (points_head P) (points_in P b (inr (inr m))) (points_head (points_tail P)) (λ e. points_apart P c (inl refl) (sym e)) (points_apart P b (inr m)) nbc in
       let e = factor O cs b x in
       cc (factor-other O c cs b x nbc, three, F.mul_assoc (ratio O a b x) (ratio O c b x) e, share (ratio O c a x) (ratio O a c x) (ratio O a b x) (ratio O c b x) e)
 
@@ -50,22 +50,22 @@ module _ {O : Ops} (F : IsField O) where
       let v = ratio O a c x in
       let f : ℕ → ℕ = λ b. ratio O a b x ⊗ factor O cs b x in
       let g : ℕ → ℕ = λ b. ratio O c b x ⊗ factor O cs b x in
-      let n : a ≡ c → ⊥ = λ e. points-apart P c (inl refl) (sym e) in
+      let n : a ≡ c → ⊥ = λ e. points_apart P c (inl refl) (sym e) in
       cc (
         factor-other O c cs a x n,
-        factor-self O cs c x,
-        total-two (λ b. ratio O a b x ⊗ factor O (c ∷ cs) b x) f g u v cs (λ b m. ones-point a b c x cs P m),
+        factor_self O cs c x,
+        total_two (λ b. ratio O a b x ⊗ factor O (c ∷ cs) b x) f g u v cs (λ b m. ones_point a b c x cs P m),
         join u v (factor O cs a x) (factor O cs c x) (total O f cs) (total O g cs),
-        F.mul-one u (F.mul-lt (x ⊖ c) (inv (a ⊖ c))),
-        F.mul-one v (F.mul-lt (x ⊖ a) (inv (c ⊖ a))),
-        ratio-two F a c x (points-head P) (points-head (points-tail P)) n,
+        F.mul_one u (F.mul_lt (x ⊖ c) (inv (a ⊖ c))),
+        F.mul_one v (F.mul_lt (x ⊖ a) (inv (c ⊖ a))),
+        ratio_two F a c x (points_head P) (points_head (points_tail P)) n,
       )
 
   -- the law for the constant 1: the factors of the points a ∷ cs come to 1
   ones : (cs : List ℕ) (a x : ℕ) → Points q (a ∷ cs) → factor O cs a x ⊕ total O (λ b. ratio O a b x ⊗ factor O cs b x) cs ≡ 1
   unfolding factor total
-  ones [] a x P = F.add-zero 1 F.one-lt
-  ones (c ∷ cs) a x P = ones_step a c x cs P (ones cs a x (points-skip P)) (ones cs c x (points-tail P))
+  ones [] a x P = F.add-zero 1 F.one_lt
+  ones (c ∷ cs) a x P = ones_step a c x cs P (ones cs a x (points_skip P)) (ones cs c x (points_tail P))
 
   divide : (v d w r i e : ℕ) → (v ⊕ d ⊗ w) ⊗ (r ⊗ i ⊗ e) ≡ v ⊗ (r ⊗ i ⊗ e) ⊕ d ⊗ i ⊗ (r ⊗ (w ⊗ e))
   divide v d w r i e = simp (ring, F)
@@ -74,33 +74,33 @@ module _ {O : Ops} (F : IsField O) where
   gather v i k e = simp (ring, F)
 
   module _ (a c x : ℕ) (cs xs : List ℕ) (P : Points q (a ∷ xs)) (B : Below q (c ∷ cs)) where
-    lagrange-point : (b : ℕ) → In b xs
+    lagrange_point : (b : ℕ) → In b xs
         → eval O (c ∷ cs) b ⊗ factor O (a ∷ xs) b x ≡ eval O (c ∷ cs) a ⊗ (ratio O a b x ⊗ factor O xs b x) ⊕ (x ⊖ a) ⊗ (eval O (quotient O a cs) b ⊗ factor O xs b x)
-    lagrange-point b m =
-        let n = points-apart P b m in
+    lagrange_point b m =
+        let n = points_apart P b m in
         let e = factor O xs b x in
         let w = eval O (quotient O a cs) b in
         cc (
           eval-quotient F a c cs b B,
           factor-other O a xs b x n,
           divide (eval O (c ∷ cs) a) (b ⊖ a) w (x ⊖ a) (inv (b ⊖ a)) e,
-          F.mul-inv (b ⊖ a) (F.sub-lt b a) (sub-not-zero F b a (points-in P b (inr m)) (points-head P) n),
-          one-mul F ((x ⊖ a) ⊗ (w ⊗ e)) (F.mul-lt (x ⊖ a) (w ⊗ e)),
+          F.mul-inv (b ⊖ a) (F.sub_lt b a) (sub_not_zero F b a (points_in P b (inr m)) (points_head P) n),
+          one_mul F ((x ⊖ a) ⊗ (w ⊗ e)) (F.mul_lt (x ⊖ a) (w ⊗ e)),
         )
 
-    lagrange-step : eval O (quotient O a cs) x ≡ total O (λ b. eval O (quotient O a cs) b ⊗ factor O xs b x) xs
+    lagrange_step : eval O (quotient O a cs) x ≡ total O (λ b. eval O (quotient O a cs) b ⊗ factor O xs b x) xs
         → eval O (c ∷ cs) x ≡ eval O (c ∷ cs) a ⊗ factor O (a ∷ xs) a x ⊕ total O (λ b. eval O (c ∷ cs) b ⊗ factor O (a ∷ xs) b x) xs
-    lagrange-step h =
+    lagrange_step h =
         let v = eval O (c ∷ cs) a in
         let f : ℕ → ℕ = λ b. ratio O a b x ⊗ factor O xs b x in
         let g : ℕ → ℕ = λ b. eval O (quotient O a cs) b ⊗ factor O xs b x in
         cc (
           eval-quotient F a c cs x B,
-          factor-self O xs a x,
-          total-two (λ b. eval O (c ∷ cs) b ⊗ factor O (a ∷ xs) b x) f g v (x ⊖ a) xs lagrange-point,
+          factor_self O xs a x,
+          total_two (λ b. eval O (c ∷ cs) b ⊗ factor O (a ∷ xs) b x) f g v (x ⊖ a) xs lagrange_point,
           ones xs a x P,
           gather v (factor O xs a x) (total O f xs) ((x ⊖ a) ⊗ total O g xs),
-          F.mul-one v (eval-lt F (c ∷ cs) a),
+          F.mul_one v (eval_lt F (c ∷ cs) a),
         )
 
   pub lagrange : (xs p : List ℕ) (x : ℕ) → Points q xs → length p ≤ length xs → Below q p → eval O p x ≡ total O (λ a. eval O p a ⊗ factor O xs a x) xs
@@ -109,4 +109,4 @@ module _ {O : Ops} (F : IsField O) where
   lagrange [] (c ∷ cs) x P l b = absurd (omega arith)
   lagrange (a ∷ xs) [] x P l b = sym (total-mul F 0 (λ b. factor O (a ∷ xs) b x) (a ∷ xs) ∙ zero-mul F (total O (λ b. factor O (a ∷ xs) b x) (a ∷ xs)))
   lagrange (a ∷ xs) (c ∷ cs) x P l b =
-      lagrange-step a c x cs xs P b (lagrange xs (quotient O a cs) x (points-tail P) (omega (arith, length-quotient F a cs)) (below_quotient F a cs))
+      lagrange_step a c x cs xs P b (lagrange xs (quotient O a cs) x (points_tail P) (omega (arith, length-quotient F a cs)) (below_quotient F a cs))

@@ -5,32 +5,32 @@ use Rattle.std.proofs.Math.Path.{refl, sym, ap}
 use Rattle.std.proofs.Common.{ap₂, ◌∙◌, le_of_suc-le-suc, arith}
 use mathlib.Core.List.{List, [], ◌∷◌}
 use Rattle.lists.specs.Below.{Below}
-use Rattle.lists.specs.Listed.{listed, listed-is, listed_same, length-listed, getD-listed}
+use Rattle.lists.specs.Listed.{listed, listed_is, listed_same, length-listed, get_d_listed}
 use Rattle.lists.specs.Map.{get_d_map}
-use Rattle.algebra.specs.Combine.{combine, combine-same, combine-value, factors}
+use Rattle.algebra.specs.Combine.{combine, combine_same, combine_value, factors}
 use Rattle.algebra.specs.Factor.{factor}
 use Rattle.algebra.specs.Field.{Ops, IsField}
 use Rattle.algebra.specs.Points.{Points}
 use Rattle.algebra.specs.Poly.{eval}
-use Rattle.algebra.specs.Ring.{ring, zero-lt, zero-mul, mul-zero}
+use Rattle.algebra.specs.Ring.{ring, zero_lt, zero-mul, mul-zero}
 
 -- what m values, given by a rule, come to: each times its factor, summed
 abbrev pub mixed : Ops → List ℕ → ℕ → (ℕ → ℕ) → ℕ
 mixed O fs m y = combine O (listed y m) fs m
 
-pub mixed-same : (O : Ops) (fs : List ℕ) (m : ℕ) (y z : ℕ → ℕ) → ((k : ℕ) → k < m → y k ≡ z k) → mixed O fs m y ≡ mixed O fs m z
-mixed-same O fs m y z h = ap (λ (ys : List ℕ). combine O ys fs m) (listed_same y z m h)
+pub mixed_same : (O : Ops) (fs : List ℕ) (m : ℕ) (y z : ℕ → ℕ) → ((k : ℕ) → k < m → y k ≡ z k) → mixed O fs m y ≡ mixed O fs m z
+mixed_same O fs m y z h = ap (λ (ys : List ℕ). combine O ys fs m) (listed_same y z m h)
 
-mixed-none : (O : Ops) (fs : List ℕ) (y : ℕ → ℕ) → mixed O fs 0 y ≡ 0
+mixed_none : (O : Ops) (fs : List ℕ) (y : ℕ → ℕ) → mixed O fs 0 y ≡ 0
 unfolding combine
-mixed-none O fs y = refl
+mixed_none O fs y = refl
 
 -- one value more
-pub mixed-more : (O : Ops) (fs : List ℕ) (m : ℕ) (y : ℕ → ℕ) → mixed O fs (suc m) y ≡ O.add (mixed O fs m y) (O.mul (y m) (get_or fs m 0))
+pub mixed_more : (O : Ops) (fs : List ℕ) (m : ℕ) (y : ℕ → ℕ) → mixed O fs (suc m) y ≡ O.add (mixed O fs m y) (O.mul (y m) (get_or fs m 0))
 unfolding combine
-mixed-more O fs m y =
-    ap₂ O.add (combine-same O (listed y (suc m)) (listed y m) fs fs m (λ i l. getD-listed y (suc m) i (omega arith) ∙ sym (getD-listed y m i l)) (λ i l. refl))
-    (ap (λ (e : ℕ). O.mul e (get_or fs m 0)) (getD-listed y (suc m) m (omega arith)))
+mixed_more O fs m y =
+    ap₂ O.add (combine_same O (listed y (suc m)) (listed y m) fs fs m (λ i l. get_d_listed y (suc m) i (omega arith) ∙ sym (get_d_listed y m i l)) (λ i l. refl))
+    (ap (λ (e : ℕ). O.mul e (get_or fs m 0)) (get_d_listed y (suc m) m (omega arith)))
 
 -- a list without its head
 unfoldable rest : List ℕ → List ℕ
@@ -42,82 +42,82 @@ unfolding rest
 length_rest [] n s = absurd (omega arith)
 length_rest (c ∷ cs) n s = omega arith
 
-getD-rest : (p : List ℕ) (j : ℕ) → get_or (rest p) j 0 ≡ get_or p (suc j) 0
+get_d_rest : (p : List ℕ) (j : ℕ) → get_or (rest p) j 0 ≡ get_or p (suc j) 0
 unfolding rest
-getD-rest [] j = refl
-getD-rest (c ∷ cs) j = refl
+get_d_rest [] j = refl
+get_d_rest (c ∷ cs) j = refl
 
 -- what a rule lists, the first apart
-listed-first : (f : ℕ → ℕ) (n : ℕ) → f 0 ∷ listed (λ j. f (suc j)) n ≡ listed f (suc n)
-listed-first f n = listed-is f (suc n) (f 0 ∷ listed (λ j. f (suc j)) n) (ap suc (length-listed (λ j. f (suc j)) n)) each
+listed_first : (f : ℕ → ℕ) (n : ℕ) → f 0 ∷ listed (λ j. f (suc j)) n ≡ listed f (suc n)
+listed_first f n = listed_is f (suc n) (f 0 ∷ listed (λ j. f (suc j)) n) (ap suc (length-listed (λ j. f (suc j)) n)) each
   where
     each : (i : ℕ) → i < suc n → get_or (f 0 ∷ listed (λ j. f (suc j)) n) i 0 ≡ f i
     each zero h = refl
-    each (suc i) h = getD-listed (λ j. f (suc j)) n i (le_of_suc-le-suc h)
+    each (suc i) h = get_d_listed (λ j. f (suc j)) n i (le_of_suc-le-suc h)
 
 module _ {O : Ops} (F : IsField O) where
   infixl 60 ◌⊕◌
   infixl 70 ◌⊗◌
   open O use {q, add as ◌⊕◌, mul as ◌⊗◌}
 
-  more-add : (a b v w f : ℕ) → a ⊕ b ⊕ (v ⊕ w) ⊗ f ≡ a ⊕ v ⊗ f ⊕ (b ⊕ w ⊗ f)
-  more-add a b v w f = simp (ring, F)
+  more_add : (a b v w f : ℕ) → a ⊕ b ⊕ (v ⊕ w) ⊗ f ≡ a ⊕ v ⊗ f ⊕ (b ⊕ w ⊗ f)
+  more_add a b v w f = simp (ring, F)
 
-  more-mul : (c a v f : ℕ) → c ⊗ a ⊕ c ⊗ v ⊗ f ≡ c ⊗ (a ⊕ v ⊗ f)
-  more-mul c a v f = simp (ring, F)
+  more_mul : (c a v f : ℕ) → c ⊗ a ⊕ c ⊗ v ⊗ f ≡ c ⊗ (a ⊕ v ⊗ f)
+  more_mul c a v f = simp (ring, F)
 
   eval-rest : (p : List ℕ) (x : ℕ) → eval O p x ≡ get_or p 0 0 ⊕ x ⊗ eval O (rest p) x
   unfolding eval rest
-  eval-rest [] x = sym (ap (λ (e : ℕ). 0 ⊕ e) (mul-zero F x) ∙ F.add-zero 0 (zero-lt F))
+  eval-rest [] x = sym (ap (λ (e : ℕ). 0 ⊕ e) (mul-zero F x) ∙ F.add-zero 0 (zero_lt F))
   eval-rest (c ∷ cs) x = refl
 
-  eval-none : (p : List ℕ) (x : ℕ) → length p ≡ 0 → eval O p x ≡ 0
+  eval_none : (p : List ℕ) (x : ℕ) → length p ≡ 0 → eval O p x ≡ 0
   unfolding eval
-  eval-none [] x s = refl
-  eval-none (c ∷ cs) x s = absurd (omega arith)
+  eval_none [] x s = refl
+  eval_none (c ∷ cs) x s = absurd (omega arith)
 
   module _ (fs : List ℕ) where
-    pub mixed-lt : (m : ℕ) (y : ℕ → ℕ) → mixed O fs m y < q
-    mixed-lt zero y = rw (mixed-none O fs y) (zero-lt F)
-    mixed-lt (suc m) y = rw (mixed-more O fs m y) (F.add-lt (mixed O fs m y) (y m ⊗ get_or fs m 0))
+    pub mixed_lt : (m : ℕ) (y : ℕ → ℕ) → mixed O fs m y < q
+    mixed_lt zero y = rw (mixed_none O fs y) (zero_lt F)
+    mixed_lt (suc m) y = rw (mixed_more O fs m y) (F.add_lt (mixed O fs m y) (y m ⊗ get_or fs m 0))
 
     pub mixed-add : (m : ℕ) (y z : ℕ → ℕ) → mixed O fs m (λ k. y k ⊕ z k) ≡ mixed O fs m y ⊕ mixed O fs m z
-    mixed-add zero y z = mixed-none O fs (λ k. y k ⊕ z k) ∙ sym (ap₂ ◌⊕◌ (mixed-none O fs y) (mixed-none O fs z) ∙ F.add-zero 0 (zero-lt F))
+    mixed-add zero y z = mixed_none O fs (λ k. y k ⊕ z k) ∙ sym (ap₂ ◌⊕◌ (mixed_none O fs y) (mixed_none O fs z) ∙ F.add-zero 0 (zero_lt F))
     mixed-add (suc m) y z =
-        mixed-more O fs m (λ k. y k ⊕ z k)
+        mixed_more O fs m (λ k. y k ⊕ z k)
         ∙ ap (λ (s : ℕ). s ⊕ (y m ⊕ z m) ⊗ get_or fs m 0) (mixed-add m y z)
-        ∙ more-add (mixed O fs m y) (mixed O fs m z) (y m) (z m) (get_or fs m 0)
-        ∙ sym (ap₂ ◌⊕◌ (mixed-more O fs m y) (mixed-more O fs m z))
+        ∙ more_add (mixed O fs m y) (mixed O fs m z) (y m) (z m) (get_or fs m 0)
+        ∙ sym (ap₂ ◌⊕◌ (mixed_more O fs m y) (mixed_more O fs m z))
 
     pub mixed-mul : (m c : ℕ) (y : ℕ → ℕ) → mixed O fs m (λ k. c ⊗ y k) ≡ c ⊗ mixed O fs m y
-    mixed-mul zero c y = mixed-none O fs (λ k. c ⊗ y k) ∙ sym (ap (λ (s : ℕ). c ⊗ s) (mixed-none O fs y) ∙ mul-zero F c)
+    mixed-mul zero c y = mixed_none O fs (λ k. c ⊗ y k) ∙ sym (ap (λ (s : ℕ). c ⊗ s) (mixed_none O fs y) ∙ mul-zero F c)
     mixed-mul (suc m) c y =
-        mixed-more O fs m (λ k. c ⊗ y k)
+        mixed_more O fs m (λ k. c ⊗ y k)
         ∙ ap (λ (s : ℕ). s ⊕ c ⊗ y m ⊗ get_or fs m 0) (mixed-mul m c y)
-        ∙ more-mul c (mixed O fs m y) (y m) (get_or fs m 0)
-        ∙ ap (λ (s : ℕ). c ⊗ s) (sym (mixed-more O fs m y))
+        ∙ more_mul c (mixed O fs m y) (y m) (get_or fs m 0)
+        ∙ ap (λ (s : ℕ). c ⊗ s) (sym (mixed_more O fs m y))
 
-    mixed-zeros : (m : ℕ) → mixed O fs m (λ k. 0) ≡ 0
-    mixed-zeros m = mixed-same O fs m (λ k. 0) (λ k. 0 ⊗ 0) (λ k l. sym (zero-mul F 0)) ∙ mixed-mul m 0 (λ k. 0) ∙ zero-mul F (mixed O fs m (λ k. 0))
+    mixed_zeros : (m : ℕ) → mixed O fs m (λ k. 0) ≡ 0
+    mixed_zeros m = mixed_same O fs m (λ k. 0) (λ k. 0 ⊗ 0) (λ k l. sym (zero-mul F 0)) ∙ mixed-mul m 0 (λ k. 0) ∙ zero-mul F (mixed O fs m (λ k. 0))
 
     -- the coefficients at j, mixed
     abbrev coefficient : ℕ → (ℕ → List ℕ) → ℕ → ℕ
     coefficient m p j = mixed O fs m (λ k. get_or (p k) j 0)
 
-    coefficients-rest : (m : ℕ) (p : ℕ → List ℕ) (n : ℕ) → coefficient m p 0 ∷ listed (coefficient m (λ k. rest (p k))) n ≡ listed (coefficient m p) (suc n)
-    coefficients-rest m p n =
+    coefficients_rest : (m : ℕ) (p : ℕ → List ℕ) (n : ℕ) → coefficient m p 0 ∷ listed (coefficient m (λ k. rest (p k))) n ≡ listed (coefficient m p) (suc n)
+    coefficients_rest m p n =
         ap (λ (cs : List ℕ). coefficient m p 0 ∷ cs) (listed_same (coefficient m (λ k. rest (p k))) (λ j. coefficient m p (suc j)) n
-        (λ j l. mixed-same O fs m (λ k. get_or (rest (p k)) j 0) (λ k. get_or (p k) (suc j) 0) (λ k h. getD-rest (p k) j)))
-        ∙ listed-first (coefficient m p) n
+        (λ j l. mixed_same O fs m (λ k. get_or (rest (p k)) j 0) (λ k. get_or (p k) (suc j) 0) (λ k h. get_d_rest (p k) j)))
+        ∙ listed_first (coefficient m p) n
 
-    eval-coefficients : (m : ℕ) (p : ℕ → List ℕ) (n x : ℕ)
+    eval_coefficients : (m : ℕ) (p : ℕ → List ℕ) (n x : ℕ)
         → coefficient m p 0 ⊕ x ⊗ eval O (listed (coefficient m (λ k. rest (p k))) n) x ≡ eval O (listed (coefficient m p) (suc n)) x
     unfolding eval
-    eval-coefficients m p n x = ap (λ (cs : List ℕ). eval O cs x) (coefficients-rest m p n)
+    eval_coefficients m p n x = ap (λ (cs : List ℕ). eval O cs x) (coefficients_rest m p n)
 
     mixed-rest : (m : ℕ) (p : ℕ → List ℕ) (x : ℕ) → mixed O fs m (λ k. eval O (p k) x) ≡ coefficient m p 0 ⊕ x ⊗ mixed O fs m (λ k. eval O (rest (p k)) x)
     mixed-rest m p x =
-        mixed-same O fs m (λ k. eval O (p k) x) (λ k. get_or (p k) 0 0 ⊕ x ⊗ eval O (rest (p k)) x) (λ k l. eval-rest (p k) x)
+        mixed_same O fs m (λ k. eval O (p k) x) (λ k. get_or (p k) 0 0 ⊕ x ⊗ eval O (rest (p k)) x) (λ k l. eval-rest (p k) x)
         ∙ mixed-add m (λ k. get_or (p k) 0 0) (λ k. x ⊗ eval O (rest (p k)) x)
         ∙ ap (λ (e : ℕ). coefficient m p 0 ⊕ e) (mixed-mul m x (λ k. eval O (rest (p k)) x))
 
@@ -125,17 +125,17 @@ module _ {O : Ops} (F : IsField O) where
     pub mixed-eval : (m : ℕ) (p : ℕ → List ℕ) (n x : ℕ) → ((k : ℕ) → k < m → length (p k) ≡ n)
         → mixed O fs m (λ k. eval O (p k) x) ≡ eval O (listed (λ j. mixed O fs m (λ k. get_or (p k) j 0)) n) x
     mixed-eval m p zero x s =
-        mixed-same O fs m (λ k. eval O (p k) x) (λ k. 0) (λ k l. eval-none (p k) x (s k l))
-        ∙ mixed-zeros m
-        ∙ sym (eval-none (listed (coefficient m p) 0) x (length-listed (coefficient m p) 0))
+        mixed_same O fs m (λ k. eval O (p k) x) (λ k. 0) (λ k l. eval_none (p k) x (s k l))
+        ∙ mixed_zeros m
+        ∙ sym (eval_none (listed (coefficient m p) 0) x (length-listed (coefficient m p) 0))
     mixed-eval m p (suc n) x s =
         mixed-rest m p x
         ∙ ap (λ (e : ℕ). coefficient m p 0 ⊕ x ⊗ e) (mixed-eval m (λ k. rest (p k)) n x (λ k l. length_rest (p k) n (s k l)))
-        ∙ eval-coefficients m p n x
+        ∙ eval_coefficients m p n x
 
   -- with the factors of the points, a polynomial's values at them come to its value at the place
-  pub mixed-value : (xs p : List ℕ) (x : ℕ) → Points q xs → length p ≤ length xs → Below q p
+  pub mixed_value : (xs p : List ℕ) (x : ℕ) → Points q xs → length p ≤ length xs → Below q p
       → mixed O (factors O xs x) (length xs) (λ k. eval O p (get_or xs k 0)) ≡ eval O p x
-  mixed-value xs p x P l b =
-      combine-value F xs p x P l b (listed (λ k. eval O p (get_or xs k 0)) (length xs)) (factors O xs x)
-      (λ i h. getD-listed (λ k. eval O p (get_or xs k 0)) (length xs) i h) (λ i h. get_d_map (λ a. factor O xs a x) xs i h)
+  mixed_value xs p x P l b =
+      combine_value F xs p x P l b (listed (λ k. eval O p (get_or xs k 0)) (length xs)) (factors O xs x)
+      (λ i h. get_d_listed (λ k. eval O p (get_or xs k 0)) (length xs) i h) (λ i h. get_d_map (λ a. factor O xs a x) xs i h)

@@ -8,40 +8,40 @@ use Rattle.std.proofs.Math.Decide.{dec_le}
 use Rattle.std.proofs.Math.Dec.{leb-zero}
 use Rattle.std.proofs.lemmas.List.{length-replicate, get_or-replicate}
 use Rattle.std.proofs.lemmas.Bool.{lt-leb}
-use Rattle.lists.specs.Below.{Below, below-nil, below-head, below-tail, below-cons}
-use Rattle.block.specs.Check.{allAtMost}
+use Rattle.lists.specs.Below.{Below, below_nil, below_head, below_tail, below_cons}
+use Rattle.block.specs.Check.{all_at_most}
 
-pub at-most-below : (top : ℕ) (ws : List ℕ) → allAtMost top ws ≡ true → Below (suc top) ws
-unfolding allAtMost
-at-most-below top [] e = below-nil (suc top)
-at-most-below top (w ∷ ws) e =
-    let both = (and-eq-true_iff (leb w top) (allAtMost top ws)).0 e in
-    below-cons (suc top) w ws (omega (arith, leb-true w top both.0)) (at-most-below top ws both.1)
+pub at_most_below : (top : ℕ) (ws : List ℕ) → all_at_most top ws ≡ true → Below (suc top) ws
+unfolding all_at_most
+at_most_below top [] e = below_nil (suc top)
+at_most_below top (w ∷ ws) e =
+    let both = (and-eq-true_iff (leb w top) (all_at_most top ws)).0 e in
+    below_cons (suc top) w ws (omega (arith, leb-true w top both.0)) (at_most_below top ws both.1)
 
-pub below-at-most : (top : ℕ) (ws : List ℕ) → Below (suc top) ws → allAtMost top ws ≡ true
-unfolding allAtMost
-below-at-most top [] b = refl
-below-at-most top (w ∷ ws) b =
-    rw (le-leb w top (omega (arith, below-head (suc top) w ws b))) (below-at-most top ws (below-tail (suc top) w ws b))
+pub below_at_most : (top : ℕ) (ws : List ℕ) → Below (suc top) ws → all_at_most top ws ≡ true
+unfolding all_at_most
+below_at_most top [] b = refl
+below_at_most top (w ∷ ws) b =
+    rw (le-leb w top (omega (arith, below_head (suc top) w ws b))) (below_at_most top ws (below_tail (suc top) w ws b))
 
 -- zeros are at most any number, and only zeros are at most 0
-pub zeros-at-most : (top k : ℕ) → allAtMost top (replicate k 0) ≡ true
-unfolding allAtMost
-zeros-at-most top zero = refl
-zeros-at-most top (suc k) = rw leb-zero (zeros-at-most top k)
+pub zeros_at_most : (top k : ℕ) → all_at_most top (replicate k 0) ≡ true
+unfolding all_at_most
+zeros_at_most top zero = refl
+zeros_at_most top (suc k) = rw leb-zero (zeros_at_most top k)
 
-pub at-most-zeros : (ws : List ℕ) → allAtMost 0 ws ≡ true → ws ≡ replicate (length ws) 0
-at-most-zeros ws e =
+pub at_most_zeros : (ws : List ℕ) → all_at_most 0 ws ≡ true → ws ≡ replicate (length ws) 0
+at_most_zeros ws e =
     ext_get_or 0 ws (replicate (length ws) 0) (sym (length-replicate (length ws) 0))
-    (λ i h. omega (arith, at-most-below 0 ws e i h, get_or-replicate {A = ℕ} (length ws) i 0 0 h))
+    (λ i h. omega (arith, at_most_below 0 ws e i h, get_or-replicate {A = ℕ} (length ws) i 0 0 h))
 
-at-most-append : (top : ℕ) (xs ys : List ℕ) → allAtMost top (xs ++ ys) ≡ (allAtMost top xs && allAtMost top ys)
-unfolding allAtMost
-at-most-append top [] ys = refl
-at-most-append top (x ∷ xs) ys = rw (at-most-append top xs ys, and_assoc)
+at_most_append : (top : ℕ) (xs ys : List ℕ) → all_at_most top (xs ++ ys) ≡ (all_at_most top xs && all_at_most top ys)
+unfolding all_at_most
+at_most_append top [] ys = refl
+at_most_append top (x ∷ xs) ys = rw (at_most_append top xs ys, and_assoc)
 
-leb-max : (a b top : ℕ) → (leb a top && leb b top) ≡ leb (max a b) top
-leb-max a b top =
+leb_max : (a b top : ℕ) → (leb a top && leb b top) ≡ leb (max a b) top
+leb_max a b top =
     by_cases (dec_le a top)
     (λ ha.
     by_cases (dec_le b top) (λ hb. rw (le-leb a top ha, le-leb b top hb, le-leb (max a b) top (omega arith)))
@@ -50,12 +50,12 @@ leb-max a b top =
 
 -- the largest of the first i words tells of all of them
 abbrev pub Largest : List ℕ → ℕ → ℕ → Type 0
-Largest ws i largest = (top : ℕ) → allAtMost top (take i ws) ≡ leb largest top
+Largest ws i largest = (top : ℕ) → all_at_most top (take i ws) ≡ leb largest top
 
-pub largest-none : (ws : List ℕ) → Largest ws 0 0
-unfolding allAtMost
-largest-none ws top = sym (leb-zero top)
+pub largest_none : (ws : List ℕ) → Largest ws 0 0
+unfolding all_at_most
+largest_none ws top = sym (leb-zero top)
 
-pub largest-more : (ws : List ℕ) (i largest next : ℕ) → i < length ws → next ≡ max largest (get_or ws i 0) → Largest ws i largest → Largest ws (i + 1) next
-unfolding allAtMost
-largest-more ws i largest next h n e top = rw (add-one, take-suc ws i 0 h, at-most-append, e top, and-true, n) (leb-max largest (get_or ws i 0) top)
+pub largest_more : (ws : List ℕ) (i largest next : ℕ) → i < length ws → next ≡ max largest (get_or ws i 0) → Largest ws i largest → Largest ws (i + 1) next
+unfolding all_at_most
+largest_more ws i largest next h n e top = rw (add-one, take-suc ws i 0 h, at_most_append, e top, and-true, n) (leb_max largest (get_or ws i 0) top)

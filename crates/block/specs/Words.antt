@@ -19,5 +19,5 @@ abbrev pub exchanged : ℕ → ℕ
 exchanged w = w % 256 * 256 + w / 256
 
 -- every word of a row with its bytes exchanged
-abbrev pub exchangedAll : List ℕ → List ℕ
-exchangedAll ws = listed (λ k. exchanged (get_or ws k 0)) (length ws)
+abbrev pub exchanged_all : List ℕ → List ℕ
+exchanged_all ws = listed (λ k. exchanged (get_or ws k 0)) (length ws)

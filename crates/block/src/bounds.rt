@@ -1,7 +1,7 @@
 // How large words are. Every word is looked at, whatever those before it were, so that many can be looked at together.
 ghost use Rattle.std.specs.Prelude.{◌≡◌, ◌-◌, ◌*◌, ◌≤◌, max, length, take, drop};
-ghost use Rattle.block.specs.Words.{words_of, exchangedAll};
-ghost use Rattle.block.specs.Check.{allAtMost};
+ghost use Rattle.block.specs.Words.{words_of, exchanged_all};
+ghost use Rattle.block.specs.Check.{all_at_most};
 
 use crate::words::{exchanged, word_at};
 
@@ -13,7 +13,7 @@ fn larger(a: u16, b: u16) -> u16
 
 // Whether each word is at most `top`.
 pub fn within(words: &[u16], top: u16) -> bool
-    ensures { result ≡ allAtMost top words.now }
+    ensures { result ≡ all_at_most top words.now }
 {
     let mut largest: u16 = 0;
     let mut i = 0;
@@ -26,7 +26,7 @@ pub fn within(words: &[u16], top: u16) -> bool
 
 // Whether each word of a row, its bytes exchanged back, is at most `top`.
 pub(crate) fn exchanged_within(row: &[u16], top: u16) -> bool
-    ensures { result ≡ allAtMost top (exchangedAll row.now) }
+    ensures { result ≡ all_at_most top (exchanged_all row.now) }
 {
     let mut largest: u16 = 0;
     let mut i = 0;
@@ -40,7 +40,7 @@ pub(crate) fn exchanged_within(row: &[u16], top: u16) -> bool
 // Whether each word of some bytes from word `from` up to word `to` is at most `top`.
 pub fn all_at_most(bytes: &[u8], from: usize, to: usize, top: u16) -> bool
     requires { (from ≤ to) × (2 * to ≤ length bytes.now) }
-    ensures { result ≡ allAtMost top (take (to - from) (drop from (words_of bytes.now))) }
+    ensures { result ≡ all_at_most top (take (to - from) (drop from (words_of bytes.now))) }
 {
     let mut largest: u16 = 0;
     let mut i = from;

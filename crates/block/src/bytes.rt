@@ -1,10 +1,10 @@
 // Bytes, whatever they mean.
 ghost use Rattle.std.specs.Prelude.{◌≡◌};
-ghost use Rattle.lists.specs.SameBytes.{sameBytes};
+ghost use Rattle.lists.specs.SameBytes.{same_bytes};
 
 // Whether the same bytes are lent twice. Every byte is looked at, so that many can be looked at together.
 pub fn same(a: &[u8], b: &[u8]) -> bool
-    ensures { result ≡ sameBytes a.now b.now }
+    ensures { result ≡ same_bytes a.now b.now }
 {
     if a.len() != b.len() {
         return false;

@@ -1,8 +1,8 @@
 // The check of a block: its two sums, a block sealed with them, and what is wrong with one. A block's words are taken once, with their
 // bytes exchanged, which is how most machines hold them. 256 is minus one modulo 257, so an exchanged word is minus the word, and the sums need no byte moved.
 ghost use Rattle.std.specs.Prelude.{◌≡◌, ◌*◌, ◌%◌, length, take};
-ghost use Rattle.block.specs.Words.{bytes_of, words_of, exchangedAll};
-ghost use Rattle.block.specs.Check.{plainCheck, weightedCheck, sealed, checked, blockNumber};
+ghost use Rattle.block.specs.Words.{bytes_of, words_of, exchanged_all};
+ghost use Rattle.block.specs.Check.{plain_check, weighted_check, sealed, checked, block_number};
 ghost use Rattle.block.specs.Weights.{weights};
 
 use crate::bounds::exchanged_within;
@@ -32,7 +32,7 @@ fn minus(sum: u32) -> u16
 // The check words that a row of exchanged words should have. The sums stay below 2^32 for any words: 254 * 65535 * 256.
 fn sums(row: &[u16], table: &[u16]) -> CheckWords
     requires { (length row.now ≡ 256) × (table.now ≡ weights) }
-    ensures { (result.plain ≡ plainCheck (exchangedAll row.now)) × (result.weighted ≡ weightedCheck (exchangedAll row.now)) }
+    ensures { (result.plain ≡ plain_check (exchanged_all row.now)) × (result.weighted ≡ weighted_check (exchanged_all row.now)) }
 {
     let mut plain: u32 = 0;
     let mut weighted: u32 = 0;
@@ -65,7 +65,7 @@ pub fn seal(block: &mut [u8])
 // Whether a row of exchanged words has the check words that it should have.
 fn agrees(row: &[u16]) -> bool
     requires { length row.now ≡ 256 }
-    ensures { result ≡ checked (exchangedAll row.now) }
+    ensures { result ≡ checked (exchanged_all row.now) }
 {
     let weights = WEIGHTS;
     let s = sums(row, &weights);
@@ -76,7 +76,7 @@ fn agrees(row: &[u16]) -> bool
 // that they can be worked on together.
 pub fn number(block: &[u8]) -> u32
     requires { length block.now ≡ 512 }
-    ensures { result ≡ blockNumber (words_of block.now) }
+    ensures { result ≡ block_number (words_of block.now) }
 {
     let mut row = [0u16; 256];
     take_exchanged(block, 0, &mut row);

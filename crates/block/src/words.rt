@@ -2,7 +2,7 @@
 ghost use Rattle.std.specs.Prelude.{◌≡◌, ◌+◌, ◌*◌, ◌/◌, ◌%◌, ◌<◌, ◌≤◌, eqb, length, get_or, take, drop};
 ghost use Rattle.lists.specs.Listed.{listed};
 ghost use Rattle.lists.specs.Patched.{patched};
-ghost use Rattle.block.specs.Words.{bytes_of, words_of, exchanged, exchangedAll};
+ghost use Rattle.block.specs.Words.{bytes_of, words_of, exchanged, exchanged_all};
 
 fn pair(high: u8, low: u8) -> u16
     ensures { result ≡ high * 256 + low }
@@ -88,7 +88,7 @@ pub(crate) fn exchanged(w: u16) -> u16
 
 // Exchanges the bytes of each word.
 fn exchange(row: &mut [u16])
-    ensures { row.new ≡ exchangedAll row.old }
+    ensures { row.new ≡ exchanged_all row.old }
 {
     let mut i = 0;
     while i < row.len() {

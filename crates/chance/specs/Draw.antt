@@ -11,12 +11,12 @@ abbrev pub drawn : ℕ → Drawing
 drawn draw = record { taken = ltb draw 65535; word = cond (ltb draw 65535) (draw % 257) 0 }
 
 -- the words of those draws that are taken, in order
-abbrev pub wordsDrawn : List ℕ → List ℕ
-wordsDrawn draws = map (λ d. (drawn d).word) (chosen (λ d. (drawn d).taken) draws)
+abbrev pub words_drawn : List ℕ → List ℕ
+words_drawn draws = map (λ d. (drawn d).word) (chosen (λ d. (drawn d).taken) draws)
 
 -- the words that bytes give: two by two, high byte first, the bytes are draws
-abbrev pub wordsGiven : List ℕ → List ℕ
-wordsGiven bytes = wordsDrawn (words_of bytes)
+abbrev pub words_given : List ℕ → List ℕ
+words_given bytes = words_drawn (words_of bytes)
 
 -- words laid over the old from a place on, as many as there is room for, and the place after them
 pub record Laid (old : List ℕ) (from : ℕ) (given new : List ℕ) (after : ℕ) : Type 0 where

@@ -2,8 +2,8 @@
 -- Assumes nothing.
 use Rattle.std.specs.Prelude.{ℕ, ◌+◌, ◌*◌, ◌/◌, ◌%◌, ◌<◌, ◌≡◌, Bool, true, false, cond, List, ltb, length, set}
 use Rattle.std.proofs.Common.{not-suc-le-zero, arith, length-set, get_or-set_same, get_or-set_other, below_more, lt-ltb, ltb-true}
-use Rattle.block.specs.AtMostLaws.{below-at-most}
-use Rattle.block.specs.Check.{allAtMost}
+use Rattle.block.specs.AtMostLaws.{below_at_most}
+use Rattle.block.specs.Check.{all_at_most}
 use Rattle.chance.specs.Draw.{drawn, Begun}
 
 -- the draws 257 k + w, for k = 0 .. 254, are taken and give w
@@ -13,21 +13,21 @@ word-drawn w k hw hk =
     rw (lt-ltb (257 * k + w) 65535 (omega arith), rest)
 
 -- and no other draw is taken that gives it
-pub draw-taken : (d : ℕ) → (drawn d).taken ≡ true → (d ≡ 257 * (d / 257) + (drawn d).word) × (d / 257 < 255) × ((drawn d).word < 257)
-draw-taken d e =
+pub draw_taken : (d : ℕ) → (drawn d).taken ≡ true → (d ≡ 257 * (d / 257) + (drawn d).word) × (d / 257 < 255) × ((drawn d).word < 257)
+draw_taken d e =
     let small = ltb-true d 65535 e in
     rw e (omega arith, omega arith, omega arith)
 
-pub drawn-below : (d : ℕ) → (drawn d).word < 257
-drawn-below d = picked (ltb d 65535)
+pub drawn_below : (d : ℕ) → (drawn d).word < 257
+drawn_below d = picked (ltb d 65535)
   where
     picked : (b : Bool) → cond b (d % 257) 0 < 257
     picked true = omega arith
     picked false = omega arith
 
 -- words put one after the other: none, one more, and all
-pub begun-none : (words : List ℕ) → Begun words 0
-begun-none words = record { within = omega arith; below = λ k h. absurd (not-suc-le-zero h) }
+pub begun_none : (words : List ℕ) → Begun words 0
+begun_none words = record { within = omega arith; below = λ k h. absurd (not-suc-le-zero h) }
 
 pub begun_more : {words : List ℕ} {count : ℕ} (w : ℕ) → Begun words count → count < length words → w < 257 → Begun (set words count w) (count + 1)
 begun_more {words} {count} w h l small =
@@ -36,5 +36,5 @@ begun_more {words} {count} w h l small =
       below = below_more _ count (λ k j. rw (get_or-set_other words count k w 0 (λ e. omega arith)) (h.below k j)) (rw (get_or-set_same words count w 0 l) small);
     }
 
-pub begun_all : {words : List ℕ} {count : ℕ} → Begun words count → count ≡ length words → allAtMost 256 words ≡ true
-begun_all {words} h e = below-at-most 256 words (λ k j. h.below k (omega arith))
+pub begun_all : {words : List ℕ} {count : ℕ} → Begun words count → count ≡ length words → all_at_most 256 words ≡ true
+begun_all {words} h e = below_at_most 256 words (λ k j. h.below k (omega arith))

@@ -6,38 +6,38 @@ use Rattle.std.proofs.lemmas.List.{map-append, set_split}
 use Rattle.std.proofs.Math.Nat.{sub-zero, suc-sub-suc}
 use Rattle.std.proofs.Math.Seq.{take-nil}
 use Rattle.lists.specs.Chosen.{chosen, chosen-append}
-use Rattle.lists.specs.Patched.{patched, patched-none, patched-more, length-patched}
-use Rattle.chance.specs.Draw.{drawn, wordsDrawn, Laid}
+use Rattle.lists.specs.Patched.{patched, patched_none, patched_more, length-patched}
+use Rattle.chance.specs.Draw.{drawn, words_drawn, Laid}
 
 -- one draw more at the end: its word too, if it is taken
-pub drawn-more : (draws : List ℕ) (i : ℕ) → i < length draws
-    → wordsDrawn (take (i + 1) draws) ≡ wordsDrawn (take i draws) ++ wordsDrawn (get_or draws i 0 ∷ [])
-drawn-more draws i h = rw (add-one, take-suc draws i 0, chosen-append, map-append)
+pub drawn_more : (draws : List ℕ) (i : ℕ) → i < length draws
+    → words_drawn (take (i + 1) draws) ≡ words_drawn (take i draws) ++ words_drawn (get_or draws i 0 ∷ [])
+drawn_more draws i h = rw (add-one, take-suc draws i 0, chosen-append, map-append)
 
 pub laid_none : (old : List ℕ) (from : ℕ) → Laid old from [] old from
 laid_none old from =
     let none = take-nil {A = ℕ} (length old - from) in
-    record { words = rw none (sym (patched-none old from)); next = rw none (omega arith) }
+    record { words = rw none (sym (patched_none old from)); next = rw none (omega arith) }
 
 -- a draw that is not taken, one that finds no room, and one that is taken and finds room
-pub laid-left : (old : List ℕ) (from d : ℕ) → (drawn d).taken ≡ false → Laid old from (wordsDrawn (d ∷ [])) old from
+pub laid_left : (old : List ℕ) (from d : ℕ) → (drawn d).taken ≡ false → Laid old from (words_drawn (d ∷ [])) old from
 unfolding chosen
-laid-left old from d e = rw e (laid_none old from)
+laid_left old from d e = rw e (laid_none old from)
 
-pub laid-full : (old : List ℕ) (from : ℕ) (given : List ℕ) → from ≡ length old → Laid old from given old from
-laid-full old from given e =
+pub laid_full : (old : List ℕ) (from : ℕ) (given : List ℕ) → from ≡ length old → Laid old from given old from
+laid_full old from given e =
     let room : length old - from ≡ 0 = omega arith in
-    record { words = rw room (sym (patched-none old from)); next = rw room (omega arith) }
+    record { words = rw room (sym (patched_none old from)); next = rw room (omega arith) }
 
 laid_one : (old : List ℕ) (from w : ℕ) → from < length old → Laid old from (w ∷ []) (set old from w) (from + 1)
 laid_one old from w h =
     let one : take (length old - from) (w ∷ []) ≡ w ∷ [] = take_all (length old - from) (w ∷ []) (omega arith) in
     record { words = rw one (set_split old from w h ∙ rw (add-one from)); next = rw one }
 
-pub laid-taken : (old : List ℕ) (from d w : ℕ) → (drawn d).taken ≡ true → w ≡ (drawn d).word → from < length old
-    → Laid old from (wordsDrawn (d ∷ [])) (set old from w) (from + 1)
+pub laid_taken : (old : List ℕ) (from d w : ℕ) → (drawn d).taken ≡ true → w ≡ (drawn d).word → from < length old
+    → Laid old from (words_drawn (d ∷ [])) (set old from w) (from + 1)
 unfolding chosen
-laid-taken old from d w e same h = rw (same, e) (rw e (laid_one old from (d % 257) h))
+laid_taken old from d w e same h = rw (same, e) (rw e (laid_one old from (d % 257) h))
 
 -- what is laid right behind is laid over in one
 take-append : (n : ℕ) (xs ys : List ℕ) → take n (xs ++ ys) ≡ take n xs ++ take (n - length xs) ys
@@ -57,6 +57,6 @@ module _ {old mid new xs ys : List ℕ} {from at after : ℕ} where
       let all : take room (xs ++ ys) ≡ some ++ rest = take-append room xs ys ∙ rw left in
       let over = ap₂ (λ (m : List ℕ) (a : ℕ). patched m a rest) first.words first.next in
       record {
-        words = rw all (second.words ∙ over ∙ patched-more old from some rest (omega arith));
+        words = rw all (second.words ∙ over ∙ patched_more old from some rest (omega arith));
         next = rw (all, length-append some rest) (omega arith);
       }

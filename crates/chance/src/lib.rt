@@ -1,7 +1,7 @@
 // Random words for a cut, each of 0 .. 256 as likely as any other, from the system's own source.
 ghost use Rattle.std.specs.Prelude.{◌≡◌, true, length, ◌+◌, ◌*◌, ◌<◌, [], ◌∷◌};
-ghost use Rattle.block.specs.Check.{allAtMost};
-ghost use Rattle.chance.specs.Draw.{wordsDrawn, wordsGiven, Laid, Begun};
+ghost use Rattle.block.specs.Check.{all_at_most};
+ghost use Rattle.chance.specs.Draw.{words_drawn, words_given, Laid, Begun};
 ghost use Rattle.chance.specs.Draw.{drawn as Draw·drawn};
 
 // What a draw of 16 bits gives: a word, or nothing, and then it is drawn again.
@@ -38,7 +38,7 @@ fn pair(high: u8, low: u8) -> u16
 fn put(words: &mut [u16], count: usize, draw: u16) -> usize
     requires { Begun words.old count }
     ensures fact_1 { Begun words.new result }
-    ensures fact_2 { Laid words.old count (wordsDrawn (draw ∷ [])) words.new result }
+    ensures fact_2 { Laid words.old count (words_drawn (draw ∷ [])) words.new result }
 {
     let outcome = drawn(draw);
     if !outcome.taken {
@@ -56,7 +56,7 @@ fn fill_from(bytes: &[u8; 256], words: &mut [u16], from: usize) -> usize
     requires fact_1 { Begun words.old from }
     requires fact_2 { length bytes.now ≡ 256 }
     ensures fact_1 { Begun words.new result }
-    ensures fact_2 { Laid words.old from (wordsGiven bytes.now) words.new result }
+    ensures fact_2 { Laid words.old from (words_given bytes.now) words.new result }
 {
     let mut count = from;
     let mut i = 0;
@@ -71,7 +71,7 @@ fn fill_from(bytes: &[u8; 256], words: &mut [u16], from: usize) -> usize
 
 // Fills the words, and answers whether the source gave enough.
 pub fn fill(words: &mut [u16]) -> bool
-    ensures { result ≡ true → allAtMost 256 words.new ≡ true }
+    ensures { result ≡ true → all_at_most 256 words.new ≡ true }
 {
     let mut bytes = [0u8; 256];
     let mut count = 0;

@@ -8,23 +8,23 @@ use native.Mathlib.Omega.{arith}
 use lib.ListN.{length, get_or, set, take, drop, length-append, length-map, take-append-drop}
 use lib.Seq.{take_all}
 use Rattle.lists.specs.Chosen.{chosen}
-use Rattle.lists.specs.ChosenFrom.{chosen-joined, chosen-skipped, chosen-up-to}
+use Rattle.lists.specs.ChosenFrom.{chosen_joined, chosen_skipped, chosen_up_to}
 use Rattle.lists.specs.From.{from}
-use Rattle.lists.specs.Patched.{patched-none, patched-more, set-patched, length-patched}
+use Rattle.lists.specs.Patched.{patched_none, patched_more, set-patched, length-patched}
 use Rattle.compare.specs.Compare.{difference}
-use Rattle.compare.specs.Parts.{inPart, in_parts, Laid}
-use Rattle.compare.specs.PartLaws.{in-parts-append, in-parts-more, length_more}
+use Rattle.compare.specs.Parts.{in_part, in_parts, Laid}
+use Rattle.compare.specs.PartLaws.{in_parts-append, in_parts_more, length_more}
 
 module _ {rule : ℕ → List ℕ} {old : List (List ℕ)} {at : ℕ} where
   pub laid_none : at ≤ length old → Laid rule old at [] old at
-  laid_none h = record { fits = omega arith; behind = omega arith; laid = sym (patched-none old at) }
+  laid_none h = record { fits = omega arith; behind = omega arith; laid = sym (patched_none old at) }
 
   module _ {places : List ℕ} {list : List (List ℕ)} {next : ℕ} (before : Laid rule old at places list next) where
     rows : length (map rule places) ≡ length places
     rows = length-map places rule
 
-    pub laid-size : length list ≡ length old
-    laid-size = ap length before.laid ∙ length-patched old at (map rule places) (omega (arith, rows, before.fits))
+    pub laid_size : length list ≡ length old
+    laid_size = ap length before.laid ∙ length-patched old at (map rule places) (omega (arith, rows, before.fits))
 
     -- one place more, by a store
     pub laid_more : {i : ℕ} {row : List ℕ} → at + length places < length old → row ≡ rule i
@@ -38,74 +38,74 @@ module _ {rule : ℕ → List ℕ} {old : List (List ℕ)} {at : ℕ} where
         }
 
     -- the places of a part more, by a call
-    pub laid-part : {more : List ℕ} {left : List (List ℕ)} {then : ℕ} → Laid rule list next more left then → Laid rule old at (places ++ more) left then
-    laid-part {more} {left} {then} part =
+    pub laid_part : {more : List ℕ} {left : List (List ℕ)} {then : ℕ} → Laid rule list next more left then → Laid rule old at (places ++ more) left then
+    laid_part {more} {left} {then} part =
         let here : next ≡ at + length (map rule places) = omega (arith, rows, before.behind) in
         record {
-          fits = rw length-append (omega (arith, part.fits, before.behind, laid-size));
+          fits = rw length-append (omega (arith, part.fits, before.behind, laid_size));
           behind = rw length-append (omega (arith, part.behind, before.behind));
           laid =
               part.laid ∙ rw (before.laid, here, map-append)
-              (patched-more old at (map rule places) (map rule more) (omega (arith, rows, before.fits)));
+              (patched_more old at (map rule places) (map rule more) (omega (arith, rows, before.fits)));
         }
 
 -- of the numbers from a on, j are looked at, and those that pass are laid
 pub record LaidTo (test : ℕ → Bool) (a : ℕ) (rule : ℕ → List ℕ) (old : List (List ℕ)) (at j : ℕ) (list : List (List ℕ)) (next : ℕ) : Type 0 where
   pub within : j ≤ 8
-  pub laid-to : Laid rule old at (chosen test (from a j)) list next
+  pub laid_to : Laid rule old at (chosen test (from a j)) list next
 
 module _ {test : ℕ → Bool} {a : ℕ} {rule : ℕ → List ℕ} {old : List (List ℕ)} {at : ℕ} where
   pub to_none : at ≤ length old → LaidTo test a rule old at 0 old at
   unfolding chosen from
-  to_none h = record { within = omega arith; laid-to = laid_none h }
+  to_none h = record { within = omega arith; laid_to = laid_none h }
 
   module _ {j : ℕ} {list : List (List ℕ)} {next : ℕ} (before : LaidTo test a rule old at j list next) where
-    pub to-all : 8 ≤ j → Laid rule old at (chosen test (from a 8)) list next
-    to-all h = let all : j ≡ 8 = omega (arith, before.within) in rw all at before.laid-to
+    pub to_all : 8 ≤ j → Laid rule old at (chosen test (from a 8)) list next
+    to_all h = let all : j ≡ 8 = omega (arith, before.within) in rw all at before.laid_to
 
     module _ (more : j < 8) where
-      pub to-skipped : test (a + j) ≡ false → LaidTo test a rule old at (j + 1) list next
-      to-skipped e = record { within = omega arith; laid-to = rw (chosen-skipped test a j e) before.laid-to }
+      pub to_skipped : test (a + j) ≡ false → LaidTo test a rule old at (j + 1) list next
+      to_skipped e = record { within = omega arith; laid_to = rw (chosen_skipped test a j e) before.laid_to }
 
       -- there is room for all that pass, so for this one
       module _ (room : at + length (chosen test (from a 8)) ≤ length old) (e : test (a + j) ≡ true) where
         pub to_room : next < length list
         to_room =
-            let one : length (chosen test (from a (j + 1))) ≡ length (chosen test (from a j)) + 1 = rw (chosen-joined test a j e, length-append) refl in
-            omega (arith, laid-size before.laid-to, before.laid-to.behind, chosen-up-to test a (j + 1) 8 (omega arith))
+            let one : length (chosen test (from a (j + 1))) ≡ length (chosen test (from a j)) + 1 = rw (chosen_joined test a j e, length-append) refl in
+            omega (arith, laid_size before.laid_to, before.laid_to.behind, chosen_up_to test a (j + 1) 8 (omega arith))
 
-        pub to-joined : {row : List ℕ} → row ≡ rule (a + j) → LaidTo test a rule old at (j + 1) (set list next row) (next + 1)
-        to-joined r = record {
+        pub to_joined : {row : List ℕ} → row ≡ rule (a + j) → LaidTo test a rule old at (j + 1) (set list next row) (next + 1)
+        to_joined r = record {
           within = omega arith;
-          laid-to = rw (chosen-joined test a j e) (laid_more before.laid-to (omega (arith, laid-size before.laid-to, before.laid-to.behind, to_room)) r);
+          laid_to = rw (chosen_joined test a j e) (laid_more before.laid_to (omega (arith, laid_size before.laid_to, before.laid_to.behind, to_room)) r);
         }
 
 -- of the parts, the places of the first q are laid
 pub record LaidParts (first second : List ℕ) (old : List (List ℕ)) (parts : List ℕ) (q : ℕ) (list : List (List ℕ)) (next : ℕ) : Type 0 where
   pub within : q ≤ length parts
-  pub laid-parts : Laid (difference first second) old 0 (in_parts first second (take q parts)) list next
+  pub laid_parts : Laid (difference first second) old 0 (in_parts first second (take q parts)) list next
 
 module _ {first second : List ℕ} {old : List (List ℕ)} {parts : List ℕ} where
   pub parts_none : LaidParts first second old parts 0 old 0
   unfolding in_parts
-  parts_none = record { within = omega arith; laid-parts = laid_none (omega arith) }
+  parts_none = record { within = omega arith; laid_parts = laid_none (omega arith) }
 
   module _ {q : ℕ} {list : List (List ℕ)} {next : ℕ} (before : LaidParts first second old parts q list next) where
     pub parts_all : length parts ≤ q → Laid (difference first second) old 0 (in_parts first second parts) list next
-    parts_all h = rw (take_all q parts h) at before.laid-parts
+    parts_all h = rw (take_all q parts h) at before.laid_parts
 
     module _ (room : length (in_parts first second parts) ≤ length old) (more : q < length parts) where
-      enough : length (in_parts first second (take q parts)) + length (inPart first second (get_or parts q 0)) ≤ length old
+      enough : length (in_parts first second (take q parts)) + length (in_part first second (get_or parts q 0)) ≤ length old
       enough =
           let some = in_parts first second (take (q + 1) parts) in
           let rest = in_parts first second (drop (q + 1) parts) in
           let split : length (in_parts first second parts) ≡ length some + length rest =
-          rw (take-append-drop (q + 1) parts) at (ap (λ (ps : List ℕ). length ps) (in-parts-append first second (take (q + 1) parts) (drop (q + 1) parts)) ∙ length-append some rest) in
+          rw (take-append-drop (q + 1) parts) at (ap (λ (ps : List ℕ). length ps) (in_parts-append first second (take (q + 1) parts) (drop (q + 1) parts)) ∙ length-append some rest) in
           omega (arith, length_more first second parts q more)
 
-      pub parts-room : next + length (inPart first second (get_or parts q 0)) ≤ length list
-      parts-room = omega (arith, enough, laid-size before.laid-parts, before.laid-parts.behind)
+      pub parts-room : next + length (in_part first second (get_or parts q 0)) ≤ length list
+      parts-room = omega (arith, enough, laid_size before.laid_parts, before.laid_parts.behind)
 
-      pub parts_more : {left : List (List ℕ)} {then : ℕ} → Laid (difference first second) list next (inPart first second (get_or parts q 0)) left then
+      pub parts_more : {left : List (List ℕ)} {then : ℕ} → Laid (difference first second) list next (in_part first second (get_or parts q 0)) left then
           → LaidParts first second old parts (q + 1) left then
-      parts_more part = record { within = omega arith; laid-parts = rw (in-parts-more first second parts q more) (laid-part before.laid-parts part) }
+      parts_more part = record { within = omega arith; laid_parts = rw (in_parts_more first second parts q more) (laid_part before.laid_parts part) }

@@ -6,7 +6,7 @@ use mathlib.Core.Bool.{Bool, true, false}
 use native.Mathlib.Omega.{arith}
 use lib.ListN.{length, length-append}
 use Rattle.lists.specs.Chosen.{chosen}
-use Rattle.lists.specs.ChosenFrom.{chosen-joined, chosen-skipped, chosen-most}
+use Rattle.lists.specs.ChosenFrom.{chosen_joined, chosen_skipped, chosen_most}
 use Rattle.lists.specs.From.{from}
 
 -- of the numbers from a on, j are looked at
@@ -20,11 +20,11 @@ module _ {f : ℕ → Bool} {a : ℕ} where
   counted_none = record { within = omega arith; counted = refl }
 
   module _ {j count : ℕ} (before : CountedTo f a j count) where
-    pub counted-most : count ≤ j
-    counted-most = omega (arith, chosen-most f a j, before.counted)
+    pub counted_most : count ≤ j
+    counted_most = omega (arith, chosen_most f a j, before.counted)
 
-    pub counted-joined : {next : ℕ} → j < 8 → f (a + j) ≡ true → next ≡ count + 1 → CountedTo f a (j + 1) next
-    counted-joined h e n = record { within = omega arith; counted = rw (chosen-joined f a j e, length-append) (omega (arith, before.counted)) }
+    pub counted_joined : {next : ℕ} → j < 8 → f (a + j) ≡ true → next ≡ count + 1 → CountedTo f a (j + 1) next
+    counted_joined h e n = record { within = omega arith; counted = rw (chosen_joined f a j e, length-append) (omega (arith, before.counted)) }
 
-    pub counted-skipped : {next : ℕ} → j < 8 → f (a + j) ≡ false → next ≡ count → CountedTo f a (j + 1) next
-    counted-skipped h e n = record { within = omega arith; counted = rw (chosen-skipped f a j e) (n ∙ before.counted) }
+    pub counted_skipped : {next : ℕ} → j < 8 → f (a + j) ≡ false → next ≡ count → CountedTo f a (j + 1) next
+    counted_skipped h e n = record { within = omega arith; counted = rw (chosen_skipped f a j e) (n ∙ before.counted) }

@@ -8,46 +8,46 @@ use native.Mathlib.Omega.{arith}
 use Rattle.std.proofs.Math.ListN.{length-append}
 use Rattle.std.proofs.lemmas.Bool.{not-false}
 use Rattle.lists.specs.Chosen.{chosen, chosen-append, chosen_none}
-use Rattle.lists.specs.ChosenFrom.{chosen-joined, chosen-skipped, chosen-most}
+use Rattle.lists.specs.ChosenFrom.{chosen_joined, chosen_skipped, chosen_most}
 use Rattle.lists.specs.From.{from, from-add, from_in}
-use Rattle.lists.specs.SameBytes.{same-bytes-equal}
+use Rattle.lists.specs.SameBytes.{same_bytes_equal}
 use Rattle.block.specs.Words.{words_of}
 use Rattle.compare.specs.Compare.{differs}
 use Rattle.compare.specs.CompareLaws.{word_of_part, differs-words}
-use Rattle.compare.specs.Parts.{part_of, partDiffers, inPart, in_parts, beyond, HaveParts}
+use Rattle.compare.specs.Parts.{part_of, part_differs, in_part, in_parts, beyond, HaveParts}
 
 module _ (places many : ℕ) where
-  pub beyond-none : many ≤ places → beyond places many ≡ 0
+  pub beyond_none : many ≤ places → beyond places many ≡ 0
   unfolding beyond
-  beyond-none h = rw (le-ltb places many h)
+  beyond_none h = rw (le-ltb places many h)
 
-  pub beyond-all : places < many → beyond places many ≡ many
+  pub beyond_all : places < many → beyond places many ≡ many
   unfolding beyond
-  beyond-all h = rw (lt-ltb places many h)
+  beyond_all h = rw (lt-ltb places many h)
 
   -- what it tells
-  pub beyond-enough : beyond places many ≡ 0 → many ≤ places
-  beyond-enough e = step (ltb places many) refl
+  pub beyond_enough : beyond places many ≡ 0 → many ≤ places
+  beyond_enough e = step (ltb places many) refl
     where
       step : (b : Bool) → ltb places many ≡ b → many ≤ places
-      step true t = omega (arith, beyond-all (ltb-true places many t))
+      step true t = omega (arith, beyond_all (ltb-true places many t))
       step false t = ltb-false places many t
 
-  pub beyond-short : (beyond places many ≡ 0 → ⊥) → (places < many) × (beyond places many ≡ many)
-  beyond-short w = step (ltb places many) refl
+  pub beyond_short : (beyond places many ≡ 0 → ⊥) → (places < many) × (beyond places many ≡ many)
+  beyond_short w = step (ltb places many) refl
     where
       step : (b : Bool) → ltb places many ≡ b → (places < many) × (beyond places many ≡ many)
-      step true t = (ltb-true places many t, beyond-all (ltb-true places many t))
-      step false t = absurd (w (beyond-none (ltb-false places many t)))
+      step true t = (ltb-true places many t, beyond_all (ltb-true places many t))
+      step false t = absurd (w (beyond_none (ltb-false places many t)))
 
-pub have-fewer : {first second : List ℕ} {m p : ℕ} → HaveParts first second m → p < m → HaveParts first second (p + 1)
-have-fewer has h = record { few = omega (arith, has); in-first = omega (arith, has); in-second = omega (arith, has) }
+pub have_fewer : {first second : List ℕ} {m p : ℕ} → HaveParts first second m → p < m → HaveParts first second (p + 1)
+have_fewer has h = record { few = omega (arith, has); in_first = omega (arith, has); in_second = omega (arith, has) }
 
 module _ (first second : List ℕ) where
-  pub in-parts-append : (ps qs : List ℕ) → in_parts first second (ps ++ qs) ≡ in_parts first second ps ++ in_parts first second qs
+  pub in_parts-append : (ps qs : List ℕ) → in_parts first second (ps ++ qs) ≡ in_parts first second ps ++ in_parts first second qs
   unfolding in_parts
-  in-parts-append [] qs = refl
-  in-parts-append (p ∷ ps) qs = rw (in-parts-append ps qs, append_assoc)
+  in_parts-append [] qs = refl
+  in_parts-append (p ∷ ps) qs = rw (in_parts-append ps qs, append_assoc)
 
   part-word : (tray : List ℕ) (p j : ℕ) → j < 8 → get_or (words_of (part_of tray p)) j 0 ≡ get_or (words_of tray) (8 * p + j) 0
   part-word tray p j h =
@@ -63,56 +63,56 @@ module _ (first second : List ℕ) where
       let alike : get_or (words_of first) i 0 ≡ get_or (words_of second) i 0 = rw here at (sym one ∙ (ap (λ part. get_or (words_of part) j 0) e ∙ two)) in
       differs-words first second i ∙ ap not (eq-eqb _ _ alike)
 
-  pub same-part : (p : ℕ) → partDiffers first second p ≡ false → inPart first second p ≡ []
-  unfolding inPart partDiffers
-  same-part p e =
-      let equal = same-bytes-equal (part_of first p) (part_of second p) (not-false _ e) in
+  pub same_part : (p : ℕ) → part_differs first second p ≡ false → in_part first second p ≡ []
+  unfolding in_part part_differs
+  same_part p e =
+      let equal = same_bytes_equal (part_of first p) (part_of second p) (not-false _ e) in
       chosen_none (differs first second) (from (8 * p) 8)
       (λ i m. let h = from_in (8 * p) 8 i m in same_word p i equal h.0 h.1)
 
   -- one part more
-  pub places-more : (p : ℕ) → chosen (differs first second) (from 0 (8 * (p + 1))) ≡ chosen (differs first second) (from 0 (8 * p)) ++ inPart first second p
-  unfolding inPart
-  places-more p =
+  pub places_more : (p : ℕ) → chosen (differs first second) (from 0 (8 * (p + 1))) ≡ chosen (differs first second) (from 0 (8 * p)) ++ in_part first second p
+  unfolding in_part
+  places_more p =
       let more : 8 * (p + 1) ≡ 8 * p + 8 = omega arith in
       rw (more, from-add 0 (8 * p) 8, zero-add) (chosen-append (differs first second) (from 0 (8 * p)) (from (8 * p) 8))
 
-  pub in-parts-one : (p : ℕ) → in_parts first second (p ∷ []) ≡ inPart first second p
+  pub in_parts_one : (p : ℕ) → in_parts first second (p ∷ []) ≡ in_part first second p
   unfolding in_parts
-  in-parts-one p = append-nil (inPart first second p)
+  in_parts_one p = append-nil (in_part first second p)
 
-  in-parts-none : in_parts first second (chosen (partDiffers first second) (from 0 0)) ≡ chosen (differs first second) (from 0 0)
+  in_parts_none : in_parts first second (chosen (part_differs first second) (from 0 0)) ≡ chosen (differs first second) (from 0 0)
   unfolding from chosen in_parts
-  in-parts-none = refl
+  in_parts_none = refl
 
   -- the places that differ are those of the parts that do
-  pub in-parts-all : (m : ℕ) → in_parts first second (chosen (partDiffers first second) (from 0 m)) ≡ chosen (differs first second) (from 0 (8 * m))
-  in-parts-all zero = in-parts-none
-  in-parts-all (suc m) = rw (← add-one m) (step (partDiffers first second m) refl (in-parts-all m))
+  pub in_parts_all : (m : ℕ) → in_parts first second (chosen (part_differs first second) (from 0 m)) ≡ chosen (differs first second) (from 0 (8 * m))
+  in_parts_all zero = in_parts_none
+  in_parts_all (suc m) = rw (← add-one m) (step (part_differs first second m) refl (in_parts_all m))
     where
-      step : (b : Bool) → partDiffers first second m ≡ b → in_parts first second (chosen (partDiffers first second) (from 0 m)) ≡ chosen (differs first second) (from 0 (8 * m))
-          → in_parts first second (chosen (partDiffers first second) (from 0 (m + 1))) ≡ chosen (differs first second) (from 0 (8 * (m + 1)))
+      step : (b : Bool) → part_differs first second m ≡ b → in_parts first second (chosen (part_differs first second) (from 0 m)) ≡ chosen (differs first second) (from 0 (8 * m))
+          → in_parts first second (chosen (part_differs first second) (from 0 (m + 1))) ≡ chosen (differs first second) (from 0 (8 * (m + 1)))
       step true e before =
-          rw (chosen-joined (partDiffers first second) 0 m (rw zero-add e), zero-add, in-parts-append (chosen (partDiffers first second) (from 0 m)) (m ∷ []), in-parts-one m, before)
-          (sym (places-more m))
-      step false e before = rw (chosen-skipped (partDiffers first second) 0 m (rw zero-add e), places-more m, same-part m e, append-nil) before
+          rw (chosen_joined (part_differs first second) 0 m (rw zero-add e), zero-add, in_parts-append (chosen (part_differs first second) (from 0 m)) (m ∷ []), in_parts_one m, before)
+          (sym (places_more m))
+      step false e before = rw (chosen_skipped (part_differs first second) 0 m (rw zero-add e), places_more m, same_part m e, append-nil) before
 
   -- a part has eight words
-  pub in-part-most : (p : ℕ) → length (inPart first second p) ≤ 8
-  unfolding inPart
-  in-part-most p = chosen-most (differs first second) (8 * p) 8
+  pub in_part_most : (p : ℕ) → length (in_part first second p) ≤ 8
+  unfolding in_part
+  in_part_most p = chosen_most (differs first second) (8 * p) 8
 
-  pub in-parts-most : (ps : List ℕ) → length (in_parts first second ps) ≤ 8 * length ps
+  pub in_parts_most : (ps : List ℕ) → length (in_parts first second ps) ≤ 8 * length ps
   unfolding in_parts
-  in-parts-most [] = omega arith
-  in-parts-most (p ∷ ps) = rw length-append (omega (arith, in-parts-most ps, in-part-most p))
+  in_parts_most [] = omega arith
+  in_parts_most (p ∷ ps) = rw length-append (omega (arith, in_parts_most ps, in_part_most p))
 
   -- one part more of some
   module _ (ps : List ℕ) (q : ℕ) (more : q < length ps) where
-    pub in-parts-more : in_parts first second (take (q + 1) ps) ≡ in_parts first second (take q ps) ++ inPart first second (get_or ps q 0)
-    in-parts-more =
+    pub in_parts_more : in_parts first second (take (q + 1) ps) ≡ in_parts first second (take q ps) ++ in_part first second (get_or ps q 0)
+    in_parts_more =
         rw (add-one, take-suc ps q 0 more)
-        (in-parts-append (take q ps) (get_or ps q 0 ∷ []) ∙ ap (λ (part : List ℕ). in_parts first second (take q ps) ++ part) (in-parts-one (get_or ps q 0)))
+        (in_parts-append (take q ps) (get_or ps q 0 ∷ []) ∙ ap (λ (part : List ℕ). in_parts first second (take q ps) ++ part) (in_parts_one (get_or ps q 0)))
 
-    pub length_more : length (in_parts first second (take (q + 1) ps)) ≡ length (in_parts first second (take q ps)) + length (inPart first second (get_or ps q 0))
-    length_more = ap (λ (places : List ℕ). length places) in-parts-more ∙ length-append (in_parts first second (take q ps)) (inPart first second (get_or ps q 0))
+    pub length_more : length (in_parts first second (take (q + 1) ps)) ≡ length (in_parts first second (take q ps)) + length (in_part first second (get_or ps q 0))
+    length_more = ap (λ (places : List ℕ). length places) in_parts_more ∙ length-append (in_parts first second (take q ps)) (in_part first second (get_or ps q 0))

@@ -1,7 +1,7 @@
 // What changed between two trays of one order: the places where they differ, with both words. No letter is read.
 ghost use Rattle.std.specs.Prelude.{◌≡◌, ◌&&◌, eqb, ◌*◌, ◌≤◌, length};
 ghost use Rattle.lists.specs.Below.{Below};
-ghost use Rattle.compare.specs.Compare.{compareRefusal, CompareDone};
+ghost use Rattle.compare.specs.Compare.{compare_refusal, CompareDone};
 ghost use Rattle.compare.specs.Parts.{in_parts, beyond, HaveParts};
 
 use crate::look::{count, look};
@@ -28,7 +28,7 @@ fn are_trays(first: &[u8], second: &[u8], n: usize) -> bool
 }
 
 fn refusal(o: Order, first: &[u8], second: &[u8]) -> u32
-    ensures { result ≡ compareRefusal o first.now second.now }
+    ensures { result ≡ compare_refusal o first.now second.now }
 {
     if order::lawful(o) {
         if are_trays(first, second, o.n) { 0 } else { 4 }

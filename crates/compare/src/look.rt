@@ -2,7 +2,7 @@
 ghost use Rattle.std.specs.Prelude.{◌≡◌, ◌+◌, ◌*◌, ◌<◌, ◌≤◌, length};
 ghost use Rattle.lists.specs.Below.{Below};
 ghost use Rattle.lists.specs.Count.{bit};
-ghost use Rattle.compare.specs.Parts.{partDiffers, inPart, in_parts, HaveParts, Looked};
+ghost use Rattle.compare.specs.Parts.{part_differs, in_part, in_parts, HaveParts, Looked};
 
 use block::bytes;
 use block::words::same_word;
@@ -10,7 +10,7 @@ use block::words::same_word;
 // 1 where part p has other bytes, else 0. Most parts are the same, so a part is compared at once, and only one that differs word by word.
 fn part_differs(first: &[u8], second: &[u8], p: usize) -> usize
     requires { HaveParts first.now second.now (p + 1) }
-    ensures { result ≡ bit (partDiffers first.now second.now p) }
+    ensures { result ≡ bit (part_differs first.now second.now p) }
 {
     let at = 16 * p;
     if bytes::same(&first[at..at + 16], &second[at..at + 16]) {
@@ -23,7 +23,7 @@ fn part_differs(first: &[u8], second: &[u8], p: usize) -> usize
 // How many words of part p differ.
 fn words_in(first: &[u8], second: &[u8], p: usize) -> usize
     requires { HaveParts first.now second.now (p + 1) }
-    ensures { result ≡ length (inPart first.now second.now p) }
+    ensures { result ≡ length (in_part first.now second.now p) }
 {
     let mut count: u16 = 0;
     let mut j = 0;

@@ -2,7 +2,7 @@
 ghost use Rattle.std.specs.Prelude.{◌≡◌, ◌+◌, ◌*◌, ◌<◌, ◌≤◌, length};
 ghost use Rattle.lists.specs.Below.{Below};
 ghost use Rattle.compare.specs.Compare.{difference};
-ghost use Rattle.compare.specs.Parts.{inPart, in_parts, HaveParts, Laid};
+ghost use Rattle.compare.specs.Parts.{in_part, in_parts, HaveParts, Laid};
 
 use block::words::{same_word, word_at};
 
@@ -22,8 +22,8 @@ fn place(first: &[u8], second: &[u8], i: usize) -> [u16; 5]
 // Writes the places of part p where the trays differ, from place `at` of the list on, and says where the next goes.
 fn put_part(first: &[u8], second: &[u8], p: usize, list: &mut [[u16; 5]], at: usize) -> usize
     requires fact_1 { HaveParts first.now second.now (p + 1) }
-    requires fact_2 { at + length (inPart first.now second.now p) ≤ length list.old }
-    ensures { Laid (difference first.now second.now) list.old at (inPart first.now second.now p) list.new result }
+    requires fact_2 { at + length (in_part first.now second.now p) ≤ length list.old }
+    ensures { Laid (difference first.now second.now) list.old at (in_part first.now second.now p) list.new result }
 {
     let mut next = at;
     let mut j = 0;

@@ -3,9 +3,9 @@ ghost use Rattle.std.specs.Prelude.{◌≡◌, true, suc, ◌+◌, ◌*◌, leng
 ghost use Rattle.lists.specs.Below.{Below};
 ghost use Rattle.lists.specs.Pieces.{pieces};
 ghost use Rattle.field.specs.Modulo.{mod257};
-ghost use Rattle.header.specs.Head.{lawfulHead};
-ghost use Rattle.tray.specs.Tray.{headFor};
-ghost use Rattle.cut.specs.Letters.{letterFrom, LettersLent};
+ghost use Rattle.header.specs.Head.{lawful_head};
+ghost use Rattle.tray.specs.Tray.{head_for};
+ghost use Rattle.cut.specs.Letters.{letter_from, LettersLent};
 
 use format::letter::write;
 use header::told::Told;
@@ -14,11 +14,11 @@ use tray::head_for;
 
 // Writes keeper x's letter into its slot. The row is room to work in.
 fn write_letter(told: Told, stamp: u32, columns: &[u16], x: usize, row: &mut [u16], slot: &mut [u8])
-    requires fact_1 { lawfulHead (headFor told stamp (length row.old) x) ≡ true }
+    requires fact_1 { lawful_head (head_for told stamp (length row.old) x) ≡ true }
     requires fact_2 { length columns.now ≡ length row.old * (told.order.t + 1) }
     requires fact_3 { Below 257 columns.now }
     requires fact_4 { length slot.old ≡ 2048 }
-    ensures { slot.new ≡ letterFrom mod257 told stamp columns.now (length row.old) x }
+    ensures { slot.new ≡ letter_from mod257 told stamp columns.now (length row.old) x }
 {
     let l = row.len();
     share_row(columns, told.order.t, narrow(x), row);
@@ -28,7 +28,7 @@ fn write_letter(told: Told, stamp: u32, columns: &[u16], x: usize, row: &mut [u1
 // Fills a tray: the letters of keepers 1..n, in their order.
 pub fn write_letters(told: Told, stamp: u32, columns: &[u16], row: &mut [u16], tray: &mut [u8])
     requires { LettersLent told stamp columns.now (length row.old) (length tray.old) }
-    ensures { tray.new ≡ pieces (λ k. letterFrom mod257 told stamp columns.now (length row.old) (suc k)) told.order.n }
+    ensures { tray.new ≡ pieces (λ k. letter_from mod257 told stamp columns.now (length row.old) (suc k)) told.order.n }
 {
     let n = told.order.n;
     let mut k = 0;

@@ -1,7 +1,7 @@
 // The cut of a secret.
 ghost use Rattle.std.specs.Prelude.{◌≡◌, ◌+◌, ◌*◌, length};
 ghost use Rattle.field.specs.Modulo.{mod257};
-ghost use Rattle.cut.specs.Cut.{cutNumber, cutTray, CutDone};
+ghost use Rattle.cut.specs.Cut.{cut_number, cut_tray, CutDone};
 
 use crate::letters::write_letters;
 use crate::refusal::refusal;
@@ -36,10 +36,10 @@ fn fill(
     row: &mut [u16],
     tray: &mut [u8],
 )
-    requires fact_1 { cutNumber told stamp secret.now random.now tray.old ≡ 0 }
+    requires fact_1 { cut_number told stamp secret.now random.now tray.old ≡ 0 }
     requires fact_2 { length columns.old ≡ length secret.now * (told.order.t + 1) }
     requires fact_3 { length row.old ≡ length secret.now }
-    ensures { tray.new ≡ cutTray mod257 told stamp secret.now random.now }
+    ensures { tray.new ≡ cut_tray mod257 told stamp secret.now random.now }
 {
     put_bytes(secret, row);
     lay_out(row, random, told.order.t, columns);

@@ -5,25 +5,25 @@ use Rattle.std.proofs.Common.{sym, ap, ◌∙◌, arith}
 use Rattle.std.proofs.lemmas.List.{length-replicate}
 use Rattle.algebra.specs.Field.{Ops}
 use Rattle.header.specs.declared.told.Told.{Told}
-use Rattle.cut.specs.LetterField.{LetterField, keepers-apart}
+use Rattle.cut.specs.LetterField.{LetterField, keepers_apart}
 use Rattle.join.specs.declared.Joined.{Joined}
-use Rattle.join.specs.DoneLaws.{done-any-room}
-use Rattle.join.specs.Join.{joinRefusal, JoinDone}
+use Rattle.join.specs.DoneLaws.{done_any_room}
+use Rattle.join.specs.Join.{join_refusal, JoinDone}
 use Rattle.pick.specs.declared.Picked.{Picked}
 use Rattle.pick.specs.Pick.{JoinGives, PickDone}
 use Rattle.pick.specs.Pick as pick
-use Rattle.demands.specs.JoinAnswers.{not-refused-order}
+use Rattle.demands.specs.JoinAnswers.{not_refused_order}
 
 module _ {O : Ops} (F : LetterField O) {told : Told} {tray room left : List ℕ} {result : Joined} where
   given : {stamp l number : ℕ} → JoinGives O told tray stamp l number → length room ≡ l → JoinDone O told stamp l tray room result left → result.number ≡ number
   given {stamp} {l} J s D =
-      let apart : joinRefusal told stamp l tray room ≡ 0 → told.order.n < O.q = λ e. keepers-apart F told.order (not-refused-order told stamp l tray room e) in
-      ap (λ (r : Joined). r.number) (done-any-room F.laws apart (s ∙ sym (length-replicate l 0)) D J.done) ∙ J.numbered
+      let apart : join_refusal told stamp l tray room ≡ 0 → told.order.n < O.q = λ e. keepers_apart F told.order (not_refused_order told stamp l tray room e) in
+      ap (λ (r : Joined). r.number) (done_any_room F.laws apart (s ∙ sym (length-replicate l 0)) D J.done) ∙ J.numbered
 
   -- where the pick names a stamp and length, their join has the pick's number
-  pub picked-joins : {p : Picked} → PickDone O told tray p → 1 ≤ p.stamp → length room ≡ p.length → JoinDone O told p.stamp p.length tray room result left
+  pub picked_joins : {p : Picked} → PickDone O told tray p → 1 ≤ p.stamp → length room ≡ p.length → JoinDone O told p.stamp p.length tray room result left
       → result.number ≡ p.number
-  picked-joins (pick.refused h) some s D = absurd (omega arith)
-  picked-joins (pick.none e h) some s D = absurd (omega arith)
-  picked-joins (pick.chosen stamp l e first) some s D = given first.has.joins s D
-  picked-joins (pick.stuck number stamp l e never first J) some s D = given J s D
+  picked_joins (pick.refused h) some s D = absurd (omega arith)
+  picked_joins (pick.none e h) some s D = absurd (omega arith)
+  picked_joins (pick.chosen stamp l e first) some s D = given first.has.joins s D
+  picked_joins (pick.stuck number stamp l e never first J) some s D = given J s D

@@ -5,37 +5,37 @@ use Rattle.std.proofs.Common.{sym, ap, ap₂, ◌∙◌, ⊎_elim, arith}
 use Rattle.lists.specs.Below.{Below}
 use Rattle.lists.specs.Count.{count, count_same}
 use Rattle.lists.specs.From.{from, from_in}
-use Rattle.lists.specs.KeeperSet.{keeperSet}
-use Rattle.lists.specs.KeeperSetLaws.{keeper-set-same}
-use Rattle.lists.specs.SameBytes.{sameBytes, same-bytes-equal, equal-same-bytes}
-use Rattle.lists.specs.SameTest.{same_test, same-and}
+use Rattle.lists.specs.KeeperSet.{keeper_set}
+use Rattle.lists.specs.KeeperSetLaws.{keeper_set_same}
+use Rattle.lists.specs.SameBytes.{same_bytes, same_bytes_equal, equal_same_bytes}
+use Rattle.lists.specs.SameTest.{same_test, same_and}
 use Rattle.algebra.specs.Field.{Ops}
 use Rattle.field.specs.Modulo.{mod257}
-use Rattle.block.specs.Check.{allAtMost}
-use Rattle.block.specs.AtMostLaws.{below-at-most}
+use Rattle.block.specs.Check.{all_at_most}
+use Rattle.block.specs.AtMostLaws.{below_at_most}
 use Rattle.header.specs.declared.told.Told.{Told}
 use Rattle.header.specs.OrderLaws.{KeeperFacts}
-use Rattle.tray.specs.Tray.{slot_of, usable, usableMany, word_of}
+use Rattle.tray.specs.Tray.{slot_of, usable, usable_many, word_of}
 use Rattle.agree.specs.Agreement.{matches, agreeing, needed, Reaches, constants}
-use Rattle.agree.specs.ReachesLaws.{agreeing-same}
+use Rattle.agree.specs.ReachesLaws.{agreeing_same}
 use Rattle.trials.specs.Trials.{trials}
 use Rattle.trials.specs.Within.{within}
-use Rattle.cut.specs.Cut.{cutTray}
-use Rattle.cut.specs.LetterField.{LetterField, keepers-apart, mod257-letters}
+use Rattle.cut.specs.Cut.{cut_tray}
+use Rattle.cut.specs.LetterField.{LetterField, keepers_apart, mod257-letters}
 use Rattle.cut.specs.OneCut.{OneCut}
 use Rattle.join.specs.declared.Joined.{Joined}
 use Rattle.join.specs.Join.{answer, hunt, JoinDone}
 use Rattle.join.specs.Lowest.{hunted-within}
-use Rattle.demands.specs.Accepted.{SecretAgreed, Tells, Given, told-reached, zero-agreed, reached-told}
-use Rattle.demands.specs.Altered.{unaltered, unalteredMany, EnoughLeft, AtMostAltered, count-usable}
-use Rattle.demands.specs.JoinAnswers.{cut-not-refused}
-use Rattle.demands.specs.CutPolynomials.{cutPolynomials, constants-cut, polynomials-cut, slot-matches, matches-slot}
+use Rattle.demands.specs.Accepted.{SecretAgreed, Tells, Given, told_reached, zero_agreed, reached_told}
+use Rattle.demands.specs.Altered.{unaltered, unaltered_many, EnoughLeft, AtMostAltered, count-usable}
+use Rattle.demands.specs.JoinAnswers.{cut_not_refused}
+use Rattle.demands.specs.CutPolynomials.{cut_polynomials, constants-cut, polynomials_cut, slot-matches, matches-slot}
 
 -- the join tells of the cut: a number, m, need, the usable keepers whose letters are unaltered, and what is given in the room; of the trials
--- `lowest-first` speaks, and with 0 `unaltered-first`
+-- `lowest_first` speaks, and with 0 `unaltered_first`
 pub record TellsCut (told : Told) (stamp l : ℕ) (cut tray : List ℕ) (number : ℕ) (given : List ℕ) (result : Joined) (left : List ℕ) : Type 0 where
-  pub answers : result ≡ answer number (usableMany told stamp l tray) (needed told.order.t told.order.f told.order.n (usable told stamp l tray))
-      (keeperSet (unaltered told stamp l cut tray) told.order.n) result.trials
+  pub answers : result ≡ answer number (usable_many told stamp l tray) (needed told.order.t told.order.f told.order.n (usable told stamp l tray))
+      (keeper_set (unaltered told stamp l cut tray) told.order.n) result.trials
   pub leaves : left ≡ given
 
 -- it gives the secret back: number 0, and the secret
@@ -43,14 +43,14 @@ abbrev pub GivesBack : Told → ℕ → List ℕ → List ℕ → List ℕ → J
 GivesBack told stamp secret cut tray result left = TellsCut told stamp (length secret) cut tray 0 secret result left
 
 module _ {O : Ops} (F : LetterField O) {told : Told} {stamp : ℕ} {secret random tray : List ℕ} (C : OneCut O told stamp secret random)
-    (A : AtMostAltered told stamp (length secret) (cutTray O told stamp secret random) tray) where
+    (A : AtMostAltered told stamp (length secret) (cut_tray O told stamp secret random) tray) where
   -- the tray of that one cut
   abbrev cut : List ℕ
-  cut = cutTray O told stamp secret random
+  cut = cut_tray O told stamp secret random
 
   -- its polynomials
   abbrev ps : List (List ℕ)
-  ps = cutPolynomials told.order.t secret random
+  ps = cut_polynomials told.order.t secret random
 
   abbrev agrees : ℕ → Bool
   agrees = agreeing O (usable told stamp (length secret) tray) (word_of tray (length secret)) (length secret) ps
@@ -58,43 +58,43 @@ module _ {O : Ops} (F : LetterField O) {told : Told} {stamp : ℕ} {secret rando
   -- who agrees with the cut is who is unaltered
   agrees-unaltered : (x : ℕ) → KeeperFacts told.order x → agrees x ≡ unaltered told stamp (length secret) cut tray x
   agrees-unaltered x k =
-      same-and (usable told stamp (length secret) tray x) (matches O ps (length secret) (word_of tray (length secret)) x) (sameBytes (slot_of tray x) (slot_of cut x))
-      (λ u. same_test (matches O ps (length secret) (word_of tray (length secret)) x) (sameBytes (slot_of tray x) (slot_of cut x))
-      (λ e. equal-same-bytes (slot_of tray x) (slot_of cut x) (matches-slot F C tray x k A.bytes u e))
-      (λ e. slot-matches F C tray x k (same-bytes-equal (slot_of tray x) (slot_of cut x) e)))
+      same_and (usable told stamp (length secret) tray x) (matches O ps (length secret) (word_of tray (length secret)) x) (same_bytes (slot_of tray x) (slot_of cut x))
+      (λ u. same_test (matches O ps (length secret) (word_of tray (length secret)) x) (same_bytes (slot_of tray x) (slot_of cut x))
+      (λ e. equal_same_bytes (slot_of tray x) (slot_of cut x) (matches-slot F C tray x k A.bytes u e))
+      (λ e. slot-matches F C tray x k (same_bytes_equal (slot_of tray x) (slot_of cut x) e)))
 
-  count-agrees : count agrees (from 1 told.order.n) ≡ unalteredMany told stamp (length secret) cut tray
+  count-agrees : count agrees (from 1 told.order.n) ≡ unaltered_many told stamp (length secret) cut tray
   count-agrees =
       count_same agrees (unaltered told stamp (length secret) cut tray) (from 1 told.order.n)
       (λ x i. let h = from_in 1 told.order.n x i in agrees-unaltered x (omega arith))
 
-  all-but-f : usableMany told stamp (length secret) tray ≤ count agrees (from 1 told.order.n) + told.order.f
-  all-but-f = omega (arith, count-usable told stamp (length secret) cut tray (from 1 told.order.n), A.few, count-agrees)
+  all_but_f : usable_many told stamp (length secret) tray ≤ count agrees (from 1 told.order.n) + told.order.f
+  all_but_f = omega (arith, count-usable told stamp (length secret) cut tray (from 1 told.order.n), A.few, count-agrees)
 
   -- what is left of the cut reaches need, whatever its constants are
-  cut-reaches : EnoughLeft told stamp (length secret) cut tray
+  cut_reaches : EnoughLeft told stamp (length secret) cut tray
       → Reaches O told.order.t told.order.f told.order.n (usable told stamp (length secret) tray) (word_of tray (length secret)) (length secret) ps
-  cut-reaches many = record {
-    polynomials = polynomials-cut F C;
-    enough = ⊎_elim (λ h. omega (arith, all-but-f)) (λ h. omega (arith, all-but-f, count-agrees)) many;
+  cut_reaches many = record {
+    polynomials = polynomials_cut F C;
+    enough = ⊎_elim (λ h. omega (arith, all_but_f)) (λ h. omega (arith, all_but_f, count-agrees)) many;
   }
 
   -- and where these are bytes it is agreed on
-  pub cut-agreed : Below 256 secret → EnoughLeft told stamp (length secret) cut tray → SecretAgreed O told stamp (length secret) tray ps
-  cut-agreed bytes many = record { reaches = cut-reaches many; bytes = rw (constants-cut told.order.t secret random) (below-at-most 255 secret bytes) }
+  pub cut_agreed : Below 256 secret → EnoughLeft told stamp (length secret) cut tray → SecretAgreed O told stamp (length secret) tray ps
+  cut_agreed bytes many = record { reaches = cut_reaches many; bytes = rw (constants-cut told.order.t secret random) (below_at_most 255 secret bytes) }
 
   -- what reaches need is the cut
-  reached-cut : (qs : List (List ℕ)) → Reaches O told.order.t told.order.f told.order.n (usable told stamp (length secret) tray) (word_of tray (length secret)) (length secret) qs → qs ≡ ps
-  reached-cut qs R =
-      agreeing-same F.laws told.order.t told.order.n (keepers-apart F told.order C.of_words.order-lawful) (usable told stamp (length secret) tray)
-      (word_of tray (length secret)) (length secret) qs ps R.polynomials (polynomials-cut F C) (omega (arith, R.enough, all-but-f))
+  reached_cut : (qs : List (List ℕ)) → Reaches O told.order.t told.order.f told.order.n (usable told stamp (length secret) tray) (word_of tray (length secret)) (length secret) qs → qs ≡ ps
+  reached_cut qs R =
+      agreeing_same F.laws told.order.t told.order.n (keepers_apart F told.order C.of_words.order_lawful) (usable told stamp (length secret) tray)
+      (word_of tray (length secret)) (length secret) qs ps R.polynomials (polynomials_cut F C) (omega (arith, R.enough, all_but_f))
 
   module _ {room left : List ℕ} {result : Joined} (D : JoinDone O told stamp (length secret) tray room result left) where
     told-cut : (number : ℕ) (given : List ℕ) → Tells O told stamp (length secret) tray ps number given result left
         → TellsCut told stamp (length secret) cut tray number given result left
     told-cut number given g = record {
       answers =
-          let set = keeper-set-same agrees (unaltered told stamp (length secret) cut tray) told.order.n (λ x least most. agrees-unaltered x (omega arith)) in
+          let set = keeper_set_same agrees (unaltered told stamp (length secret) cut tray) told.order.n (λ x least most. agrees-unaltered x (omega arith)) in
           let tried = sym (ap (λ (r : Joined). r.trials) g.answers) in
           g.answers ∙ ap₂ (answer number _ _) set tried;
       leaves = g.leaves;
@@ -103,59 +103,59 @@ module _ {O : Ops} (F : LetterField O) {told : Told} {stamp : ℕ} {secret rando
     -- a secret that is given was agreed on, by the cut's own polynomials
     given-cut : result.number ≡ 0 → SecretAgreed O told stamp (length secret) tray ps × Given O told stamp (length secret) tray ps result left
     given-cut z =
-        let (qs, a, g) = zero-agreed D z in
-        let e = reached-cut qs a.reaches in
+        let (qs, a, g) = zero_agreed D z in
+        let e = reached_cut qs a.reaches in
         (rw e at a, rw e at g)
 
     -- "The join never gives a wrong secret."
-    pub never-wrong : result.number ≡ 0 → GivesBack told stamp secret cut tray result left
-    never-wrong z = rw (constants-cut told.order.t secret random) at (told-cut 0 (constants ps) (given-cut z).1)
+    pub never_wrong : result.number ≡ 0 → GivesBack told stamp secret cut tray result left
+    never_wrong z = rw (constants-cut told.order.t secret random) at (told-cut 0 (constants ps) (given-cut z).1)
 
     -- the trials counted are the sets up to the first whose letters are all unaltered, where the letters' words are field words
-    pub tried-unaltered : ((x : ℕ) → KeeperFacts told.order x → usable told stamp (length secret) tray x ≡ true → (i : ℕ) → i < length secret → word_of tray (length secret) x i < O.q)
+    pub tried_unaltered : ((x : ℕ) → KeeperFacts told.order x → usable told stamp (length secret) tray x ≡ true → (i : ℕ) → i < length secret → word_of tray (length secret) x i < O.q)
         → result.number ≡ 0
         → result.trials ≡ trials (within (unaltered told stamp (length secret) cut tray)) (hunt told.order.t told.order.n (usable told stamp (length secret) tray))
-    tried-unaltered words z =
+    tried_unaltered words z =
         let (a, g) = given-cut z in
         ap (λ (r : Joined). r.trials) g.answers
-        ∙ sym (hunted-within F.laws (keepers-apart F told.order C.of_words.order-lawful) (λ x least most. words x (omega arith)) a.reaches
+        ∙ sym (hunted-within F.laws (keepers_apart F told.order C.of_words.order_lawful) (λ x least most. words x (omega arith)) a.reaches
         (unaltered told stamp (length secret) cut tray) (λ x least most. sym (agrees-unaltered x (omega arith))))
 
     -- what is told of with 0 or 8 is the cut
     never_other : (result.number ≡ 0) ⊎ (result.number ≡ 8)
-        → TellsCut told stamp (length secret) cut tray (cond (allAtMost 255 secret) 0 8) (cond (allAtMost 255 secret) secret room) result left
+        → TellsCut told stamp (length secret) cut tray (cond (all_at_most 255 secret) 0 8) (cond (all_at_most 255 secret) secret room) result left
     never_other z =
-        let (qs, R, g) = told-reached D z in
-        rw (constants-cut told.order.t secret random) at (told-cut _ _ (rw (reached-cut qs R) at g))
+        let (qs, R, g) = told_reached D z in
+        rw (constants-cut told.order.t secret random) at (told-cut _ _ (rw (reached_cut qs R) at g))
 
     -- where enough is left the cut is told of: given where its constants are bytes; where one is 256, with 8
-    tells-cut : length tray ≡ 2048 * told.order.n → length room ≡ length secret → EnoughLeft told stamp (length secret) cut tray
-        → TellsCut told stamp (length secret) cut tray (cond (allAtMost 255 secret) 0 8) (cond (allAtMost 255 secret) secret room) result left
-    tells-cut s s' many =
-        rw (constants-cut told.order.t secret random) at (told-cut _ _ (reached-told F D (cut-not-refused C tray room s s') ps (cut-reaches many)))
+    tells_cut : length tray ≡ 2048 * told.order.n → length room ≡ length secret → EnoughLeft told stamp (length secret) cut tray
+        → TellsCut told stamp (length secret) cut tray (cond (all_at_most 255 secret) 0 8) (cond (all_at_most 255 secret) secret room) result left
+    tells_cut s s' many =
+        rw (constants-cut told.order.t secret random) at (told-cut _ _ (reached_told F D (cut_not_refused C tray room s s') ps (cut_reaches many)))
 
     -- "It gives the right one if m is at least t+2f+1, and also for smaller m if at least t+f+1 usable letters are unaltered."
-    pub gives-right : Below 256 secret → length tray ≡ 2048 * told.order.n → length room ≡ length secret → EnoughLeft told stamp (length secret) cut tray
+    pub gives_right : Below 256 secret → length tray ≡ 2048 * told.order.n → length room ≡ length secret → EnoughLeft told stamp (length secret) cut tray
         → GivesBack told stamp secret cut tray result left
-    gives-right bytes s s' many = rw (below-at-most 255 secret bytes) at (tells-cut s s' many)
+    gives_right bytes s s' many = rw (below_at_most 255 secret bytes) at (tells_cut s s' many)
 
 -- The page's case, "modulo the prime 257". What is lent must have its lengths, and the constants be bytes, only where an answer is promised.
-pub demand-2 : {told : Told} {stamp : ℕ} {secret random tray room left : List ℕ} {result : Joined} → OneCut mod257 told stamp secret random
-    → AtMostAltered told stamp (length secret) (cutTray mod257 told stamp secret random) tray
+pub demand_2 : {told : Told} {stamp : ℕ} {secret random tray room left : List ℕ} {result : Joined} → OneCut mod257 told stamp secret random
+    → AtMostAltered told stamp (length secret) (cut_tray mod257 told stamp secret random) tray
     → JoinDone mod257 told stamp (length secret) tray room result left
-    → (result.number ≡ 0 → GivesBack told stamp secret (cutTray mod257 told stamp secret random) tray result left)
+    → (result.number ≡ 0 → GivesBack told stamp secret (cut_tray mod257 told stamp secret random) tray result left)
     × (Below 256 secret → length tray ≡ 2048 * told.order.n → length room ≡ length secret
-    → EnoughLeft told stamp (length secret) (cutTray mod257 told stamp secret random) tray
-    → GivesBack told stamp secret (cutTray mod257 told stamp secret random) tray result left)
-demand-2 C A D = (never-wrong mod257-letters C A D, gives-right mod257-letters C A D)
+    → EnoughLeft told stamp (length secret) (cut_tray mod257 told stamp secret random) tray
+    → GivesBack told stamp secret (cut_tray mod257 told stamp secret random) tray result left)
+demand_2 C A D = (never_wrong mod257-letters C A D, gives_right mod257-letters C A D)
 
 -- The same of words, each of which may be 256. Where 0 or 8 is answered, and where enough is left, the cut is told of: given where all its words are bytes;
 -- where one is 256, with 8, "they match, but some constant is 256".
-pub demand-2-words : {told : Told} {stamp : ℕ} {words random tray room left : List ℕ} {result : Joined} → OneCut mod257 told stamp words random
-    → AtMostAltered told stamp (length words) (cutTray mod257 told stamp words random) tray
+pub demand_2_words : {told : Told} {stamp : ℕ} {words random tray room left : List ℕ} {result : Joined} → OneCut mod257 told stamp words random
+    → AtMostAltered told stamp (length words) (cut_tray mod257 told stamp words random) tray
     → JoinDone mod257 told stamp (length words) tray room result left
     → ((result.number ≡ 0) ⊎ (result.number ≡ 8))
-    ⊎ ((length tray ≡ 2048 * told.order.n) × (length room ≡ length words) × EnoughLeft told stamp (length words) (cutTray mod257 told stamp words random) tray)
-    → TellsCut told stamp (length words) (cutTray mod257 told stamp words random) tray
-    (cond (allAtMost 255 words) 0 8) (cond (allAtMost 255 words) words room) result left
-demand-2-words C A D = ⊎_elim (never_other mod257-letters C A D) (λ h. tells-cut mod257-letters C A D h.0 h.1 h.2)
+    ⊎ ((length tray ≡ 2048 * told.order.n) × (length room ≡ length words) × EnoughLeft told stamp (length words) (cut_tray mod257 told stamp words random) tray)
+    → TellsCut told stamp (length words) (cut_tray mod257 told stamp words random) tray
+    (cond (all_at_most 255 words) 0 8) (cond (all_at_most 255 words) words room) result left
+demand_2_words C A D = ⊎_elim (never_other mod257-letters C A D) (λ h. tells_cut mod257-letters C A D h.0 h.1 h.2)

@@ -7,39 +7,39 @@ use Rattle.algebra.specs.Field.{Ops}
 use Rattle.algebra.specs.Poly.{eval}
 use Rattle.header.specs.declared.order.Order.{Order}
 use Rattle.header.specs.declared.told.Told.{Told}
-use Rattle.header.specs.OrderLaws.{facts-lawful-order}
+use Rattle.header.specs.OrderLaws.{facts_lawful_order}
 use Rattle.format.specs.declared.reader.Reading.{Reading}
 use Rattle.format.specs.Reading.{read_of}
 use Rattle.shares.specs.Fills.{fills_same}
 use Rattle.shares.specs.Words.{WordsDone}
 use Rattle.cut.specs.Cut.{CutDone}
-use Rattle.cut.specs.LetterField.{LetterField, keepers-apart, mod257-letters}
+use Rattle.cut.specs.LetterField.{LetterField, keepers_apart, mod257-letters}
 use Rattle.join.specs.declared.Joined.{Joined}
 use Rattle.join.specs.Join.{JoinDone, refused, judged}
-use Rattle.join.specs.OutcomeLaws.{outcome-same}
+use Rattle.join.specs.OutcomeLaws.{outcome_same}
 use Rattle.desk.specs.declared.Stored.{Stored}
-use Rattle.desk.specs.Desk.{StoreDone, fetchNumber, fetched}
+use Rattle.desk.specs.Desk.{StoreDone, fetch_number, fetched}
 use Rattle.pick.specs.declared.Picked.{Picked}
 use Rattle.pick.specs.Pick.{NotBefore, First, picked, PickDone}
 use Rattle.pick.specs.Pick as pick
 use Rattle.pick.specs.JoinGivesLaws.{gives_same}
-use Rattle.pick.specs.RefusalLaws.{pick-facts}
+use Rattle.pick.specs.RefusalLaws.{pick_facts}
 use Rattle.compare.specs.declared.Compared.{Compared}
 use Rattle.compare.specs.Compare.{CompareDone}
 use Rattle.compare.specs.Compare as compare
-use Rattle.lines.specs.Lines.{answerLine}
+use Rattle.lines.specs.Lines.{answer_line}
 use Rattle.report_text.specs.declared.answer.Answered.{Answered}
-use Rattle.report_text.specs.Report.{hasLines, ReportOf, short, unpicked, joined, Reported}
-use Rattle.demands.specs.JoinAnswers.{not-refused-order}
+use Rattle.report_text.specs.Report.{has_lines, ReportOf, short, unpicked, joined, Reported}
+use Rattle.demands.specs.JoinAnswers.{not_refused_order}
 
 -- reading a slot
 pub read_same : (slot : List ℕ) {reading reading' : Reading} → reading ≡ read_of slot → reading' ≡ read_of slot → reading ≡ reading'
 read_same slot e e' = e ∙ sym e'
 
 -- the cut
-pub cut-same : (O : Ops) (told : Told) (stamp : ℕ) (secret random tray : List ℕ) {number number' : ℕ} {left left' : List ℕ}
+pub cut_same : (O : Ops) (told : Told) (stamp : ℕ) (secret random tray : List ℕ) {number number' : ℕ} {left left' : List ℕ}
     → CutDone O told stamp secret random tray number left → CutDone O told stamp secret random tray number' left' → (number ≡ number') × (left ≡ left')
-cut-same O told stamp secret random tray D D' = fills_same D D'
+cut_same O told stamp secret random tray D D' = fills_same D D'
 
 -- the cutting of one value
 pub value_same : (O : Ops) (constant : ℕ) (coefficients : List ℕ) (x : ℕ) {word word' : ℕ}
@@ -52,12 +52,12 @@ pub words_same : (O : Ops) (order : Order) (words random rows : List ℕ) {numbe
 words_same O order words random rows D D' = fills_same D D'
 
 -- the join
-pub join-same : {O : Ops} → LetterField O → {told : Told} {stamp l : ℕ} {tray room left left' : List ℕ} {result result' : Joined}
+pub join_same : {O : Ops} → LetterField O → {told : Told} {stamp l : ℕ} {tray room left left' : List ℕ} {result result' : Joined}
     → JoinDone O told stamp l tray room result left → JoinDone O told stamp l tray room result' left' → (result ≡ result') × (left ≡ left')
-join-same F (refused h) (refused h') = (refl, refl)
-join-same F (refused h) (judged e D) = absurd (h e)
-join-same F (judged e D) (refused h) = absurd (h e)
-join-same F {told} {stamp} {l} {tray} {room} (judged e D) (judged e' D') = outcome-same F.laws (keepers-apart F told.order (not-refused-order told stamp l tray room e)) D D'
+join_same F (refused h) (refused h') = (refl, refl)
+join_same F (refused h) (judged e D) = absurd (h e)
+join_same F (judged e D) (refused h) = absurd (h e)
+join_same F {told} {stamp} {l} {tray} {room} (judged e D) (judged e' D') = outcome_same F.laws (keepers_apart F told.order (not_refused_order told stamp l tray room e)) D D'
 
 -- the desk: storing, the number that fetching answers, what it hands back
 pub store_same : {told : Told} {keeper : ℕ} {held letter left left' : List ℕ} {result result' : Stored}
@@ -67,13 +67,13 @@ store_same D D' =
     let place = D.place ∙ sym D'.place in
     (λ i. record { number = number i; place = place i }, D.leaves ∙ sym D'.leaves)
 
-pub fetch-number-same : (told : Told) (keeper : ℕ) (held : List ℕ) {number number' : ℕ}
-    → number ≡ fetchNumber told keeper held → number' ≡ fetchNumber told keeper held → number ≡ number'
-fetch-number-same told keeper held e e' = e ∙ sym e'
+pub fetch_number_same : (told : Told) (keeper : ℕ) (held : List ℕ) {number number' : ℕ}
+    → number ≡ fetch_number told keeper held → number' ≡ fetch_number told keeper held → number ≡ number'
+fetch_number_same told keeper held e e' = e ∙ sym e'
 
-pub fetch-same : (told : Told) (keeper : ℕ) (held : List ℕ) {part part' : List ℕ}
+pub fetch_same : (told : Told) (keeper : ℕ) (held : List ℕ) {part part' : List ℕ}
     → part ≡ fetched told keeper held → part' ≡ fetched told keeper held → part ≡ part'
-fetch-same told keeper held e e' = e ∙ sym e'
+fetch_same told keeper held e e' = e ∙ sym e'
 
 -- the comparison of two trays
 pub compare_same : {order : Order} {first second : List ℕ} {list left left' : List (List ℕ)} {result result' : Compared}
@@ -90,13 +90,13 @@ compare_same (compare.told e l) (compare.told e' l') = (refl, refl)
 
 -- the pick: one group comes first, and what its join gives is one number
 first_one : {property : ℕ → ℕ → Type 0} {s k stamp l : ℕ} → First property s k → First property stamp l → (s ≡ stamp) × (k ≡ l)
-first_one {s = s} {k} {stamp} {l} one two = neither-before (two.rest s k one.has) (one.rest stamp l two.has)
+first_one {s = s} {k} {stamp} {l} one two = neither_before (two.rest s k one.has) (one.rest stamp l two.has)
   where
-    neither-before : NotBefore s k stamp l → NotBefore stamp l s k → (s ≡ stamp) × (k ≡ l)
-    neither-before (inl earlier) (inl later) = absurd (omega arith)
-    neither-before (inl earlier) (inr same) = absurd (omega arith)
-    neither-before (inr same) (inl later) = absurd (omega arith)
-    neither-before (inr same) (inr back) = (same.0, le_antisymm same.1 back.1)
+    neither_before : NotBefore s k stamp l → NotBefore stamp l s k → (s ≡ stamp) × (k ≡ l)
+    neither_before (inl earlier) (inl later) = absurd (omega arith)
+    neither_before (inl earlier) (inr same) = absurd (omega arith)
+    neither_before (inr same) (inl later) = absurd (omega arith)
+    neither_before (inr same) (inr back) = (same.0, le_antisymm same.1 back.1)
 
 pub pick_same : {O : Ops} → LetterField O → {told : Told} {tray : List ℕ} {a b : Picked} → PickDone O told tray a → PickDone O told tray b → a ≡ b
 pick_same F (pick.refused p) (pick.refused q) = refl
@@ -116,34 +116,34 @@ pick_same F (pick.stuck number s k e never one J) (pick.none p g) = absurd (g s 
 pick_same F (pick.stuck number s k e never one J) (pick.chosen stamp l p two) = absurd (never stamp l two.has)
 pick_same F {told} {tray} (pick.stuck number s k e never one J) (pick.stuck number' stamp l p never' two J') =
     let same = first_one one two in
-    let apart = keepers-apart F told.order (facts-lawful-order told.order (pick-facts told tray e).of-told.of-order) in
+    let apart = keepers_apart F told.order (facts_lawful_order told.order (pick_facts told tray e).of_told.of_order) in
     let numbers = gives_same F.laws apart (rw (same.0, same.1) at J) J' in
     λ i. picked (numbers i) (same.0 i) (same.1 i)
 
 -- the report: the bytes, with the number that they end in
-report-of-same : {input bytes bytes' : List ℕ} {number number' : ℕ} → ReportOf input number bytes → ReportOf input number' bytes'
+report_of_same : {input bytes bytes' : List ℕ} {number number' : ℕ} → ReportOf input number bytes → ReportOf input number' bytes'
     → (number ≡ number') × (bytes ≡ bytes')
-report-of-same (short h) (short h') = (refl, refl)
-report-of-same (short h) (unpicked p whole D e) = absurd (omega arith)
-report-of-same (short h) (joined p result left whole D e J) = absurd (omega arith)
-report-of-same (unpicked p whole D e) (short h) = absurd (omega arith)
-report-of-same (unpicked p whole D e) (unpicked p' whole' D' e') =
+report_of_same (short h) (short h') = (refl, refl)
+report_of_same (short h) (unpicked p whole D e) = absurd (omega arith)
+report_of_same (short h) (joined p result left whole D e J) = absurd (omega arith)
+report_of_same (unpicked p whole D e) (short h) = absurd (omega arith)
+report_of_same (unpicked p whole D e) (unpicked p' whole' D' e') =
     let same = ap (λ (r : Picked). r.number) (pick_same mod257-letters D D') in
-    (same, ap answerLine same)
-report-of-same (unpicked p whole D e) (joined p' result left whole' D' e' J) =
-    absurd (false≢true (sym e ∙ (ap (λ (r : Picked). hasLines r.number) (pick_same mod257-letters D D') ∙ e')))
-report-of-same (joined p result left whole D e J) (short h) = absurd (omega arith)
-report-of-same (joined p result left whole D e J) (unpicked p' whole' D' e') =
-    absurd (false≢true (sym e' ∙ (ap (λ (r : Picked). hasLines r.number) (pick_same mod257-letters D' D) ∙ e)))
-report-of-same (joined p result left whole D e J) (joined p' result' left' whole' D' e' J') =
+    (same, ap answer_line same)
+report_of_same (unpicked p whole D e) (joined p' result left whole' D' e' J) =
+    absurd (false≢true (sym e ∙ (ap (λ (r : Picked). has_lines r.number) (pick_same mod257-letters D D') ∙ e')))
+report_of_same (joined p result left whole D e J) (short h) = absurd (omega arith)
+report_of_same (joined p result left whole D e J) (unpicked p' whole' D' e') =
+    absurd (false≢true (sym e' ∙ (ap (λ (r : Picked). has_lines r.number) (pick_same mod257-letters D' D) ∙ e)))
+report_of_same (joined p result left whole D e J) (joined p' result' left' whole' D' e' J') =
     let one = pick_same mod257-letters D D' in
-    let results : result ≡ result' = (join-same mod257-letters (rw one at J) J').0 in
+    let results : result ≡ result' = (join_same mod257-letters (rw one at J) J').0 in
     (ap (λ (r : Joined). r.number) results, rw (one, results))
 
-pub report-same : {input before after after' : List ℕ} {answered answered' : Answered}
+pub report_same : {input before after after' : List ℕ} {answered answered' : Answered}
     → Reported input before answered after → Reported input before answered' after' → (answered ≡ answered') × (after ≡ after')
-report-same {input} {before} R R' =
-    let e = report-of-same R.right R'.right in
+report_same {input} {before} R R' =
+    let e = report_of_same R.right R'.right in
     let counts = R.counted ∙ (ap length e.1 ∙ sym R'.counted) in
     let written = R.written ∙ (ap (λ (bytes : List ℕ). bytes ++ drop (length bytes) before) e.1 ∙ sym R'.written) in
     (λ i. record { count = counts i; number = e.0 i }, written)

@@ -2,107 +2,107 @@
 -- Assumes nothing.
 use Rattle.std.specs.Prelude.{ℕ, ◌*◌, ◌≡◌, true, List, ◌∷◌, ◌↔◌, length, get_or}
 use Rattle.std.proofs.Common.{sym, arith}
-use Rattle.lists.specs.Below.{Below, below-cons}
+use Rattle.lists.specs.Below.{Below, below_cons}
 use Rattle.lists.specs.Different.{Different}
 use Rattle.lists.specs.ExactlyOne.{ExactlyOne}
-use Rattle.lists.specs.Member.{In, in-getD}
+use Rattle.lists.specs.Member.{In, in_get_d}
 use Rattle.algebra.specs.Field.{Ops}
 use Rattle.algebra.specs.Points.{Points}
 use Rattle.field.specs.Modulo.{mod257}
 use Rattle.header.specs.declared.order.Order.{Order}
 use Rattle.header.specs.declared.told.Told.{Told}
-use Rattle.header.specs.Order.{lawfulKeeper}
-use Rattle.header.specs.OrderLaws.{KeeperFacts, lawful-order-facts, lawful-keeper-facts}
+use Rattle.header.specs.Order.{lawful_keeper}
+use Rattle.header.specs.OrderLaws.{KeeperFacts, lawful_order_facts, lawful_keeper_facts}
 use Rattle.tray.specs.Tray.{slot_of}
 use Rattle.shares.specs.OneWords.{OneWords}
-use Rattle.shares.specs.Shares.{shareWords}
-use Rattle.shares.specs.Words.{shareRows, row_of}
-use Rattle.shares.specs.WordsLaws.{row-shares}
-use Rattle.cut.specs.Cut.{letterOf, cutTray}
+use Rattle.shares.specs.Shares.{share_words}
+use Rattle.shares.specs.Words.{share_rows, row_of}
+use Rattle.shares.specs.WordsLaws.{row_shares}
+use Rattle.cut.specs.Cut.{letter_of, cut_tray}
 use Rattle.cut.specs.LetterField.{LetterField, mod257-letters}
 use Rattle.cut.specs.OneCut.{OneCut, slot-cut, shares_cut}
-use Rattle.demands.specs.SameShares.{GivesSame, SameShares, shares-exactly-one, exactly-one-as}
+use Rattle.demands.specs.SameShares.{GivesSame, SameShares, shares_exactly_one, exactly_one_as}
 
 -- "any t keepers"
 pub record AnyKeepers (order : Order) (ks : List ℕ) : Type 0 where
   pub many : length ks ≡ order.t
   pub different : Different ks
-  pub keepers : (x : ℕ) → In x ks → lawfulKeeper order x ≡ true
+  pub keepers : (x : ℕ) → In x ks → lawful_keeper order x ≡ true
 
 -- random words for the constants, with which a cut "gives those keepers the same bytes" as they have in the tray
 abbrev pub GivesSameBytes : Ops → Told → ℕ → List ℕ → List ℕ → List ℕ → List ℕ → Type 0
 GivesSameBytes O told stamp ks tray constants random =
-    GivesSame O told.order.t ks constants (λ words x. slot_of (cutTray O told stamp constants words) x) (slot_of tray) random
+    GivesSame O told.order.t ks constants (λ words x. slot_of (cut_tray O told stamp constants words) x) (slot_of tray) random
 
 -- random words for the constants, with which a cut of words gives those keepers the same rows as they have
 abbrev pub GivesSameRows : Ops → Order → List ℕ → List ℕ → List ℕ → List ℕ → Type 0
 GivesSameRows O order ks rows constants random =
-    GivesSame O order.t ks constants (λ words x. row_of (shareRows O order constants words) (length constants) x) (row_of rows (length constants)) random
+    GivesSame O order.t ks constants (λ words x. row_of (share_rows O order constants words) (length constants) x) (row_of rows (length constants)) random
 
 module _ {O : Ops} (F : LetterField O) {order : Order} {ks constants random : List ℕ} (W : OneWords O order constants random)
     (K : AnyKeepers order ks) (constants' : List ℕ) (s : length constants' ≡ length constants) (b : Below O.q constants') where
-  a-keeper : (x : ℕ) → In x ks → KeeperFacts order x
-  a-keeper x m = lawful-keeper-facts order x (K.keepers x m)
+  a_keeper : (x : ℕ) → In x ks → KeeperFacts order x
+  a_keeper x m = lawful_keeper_facts order x (K.keepers x m)
 
   points : Points O.q (0 ∷ ks)
   points =
-      let o = lawful-order-facts order W.order-lawful in
+      let o = lawful_order_facts order W.order_lawful in
       record {
-        below = below-cons O.q 0 ks (omega (arith, F.least)) (λ i h. omega (arith, F.least, o, a-keeper (get_or ks i 0) (in-getD ks i h)));
-        different = ((λ m. omega (arith, a-keeper 0 m)), K.different);
+        below = below_cons O.q 0 ks (omega (arith, F.least)) (λ i h. omega (arith, F.least, o, a_keeper (get_or ks i 0) (in_get_d ks i h)));
+        different = ((λ m. omega (arith, a_keeper 0 m)), K.different);
       }
 
-  shares-one : ExactlyOne (SameShares O order.t ks constants random constants')
-  shares-one = shares-exactly-one F.laws order.t ks K.many points constants constants' random (sym s) b
+  shares_one : ExactlyOne (SameShares O order.t ks constants random constants')
+  shares_one = shares_exactly_one F.laws order.t ks K.many points constants constants' random (sym s) b
 
   -- a keeper's row tells its share words, and they tell its row
   rows_as : (random' : List ℕ) (x : ℕ) → In x ks
-      → (shareWords O order.t x constants' random' ≡ shareWords O order.t x constants random)
-      ↔ (row_of (shareRows O order constants' random') (length constants') x ≡ row_of (shareRows O order constants random) (length constants') x)
+      → (share_words O order.t x constants' random' ≡ share_words O order.t x constants random)
+      ↔ (row_of (share_rows O order constants' random') (length constants') x ≡ row_of (share_rows O order constants random) (length constants') x)
   rows_as random' x m =
-      let ours = row-shares O order constants' random' x (a-keeper x m) in
-      let theirs = rw (sym s) at (row-shares O order constants random x (a-keeper x m)) in
+      let ours = row_shares O order constants' random' x (a_keeper x m) in
+      let theirs = rw (sym s) at (row_shares O order constants random x (a_keeper x m)) in
       (λ e. cc, λ e. cc)
 
   -- demand 3's sentence, said of rows of any field words
-  pub words-secrecy : ExactlyOne (GivesSameRows O order ks (shareRows O order constants random) constants')
-  words-secrecy = exactly-one-as O order.t ks constants' _ _ _ _ (λ random' size below. rows_as random') shares-one
+  pub words_secrecy : ExactlyOne (GivesSameRows O order ks (share_rows O order constants random) constants')
+  words_secrecy = exactly_one_as O order.t ks constants' _ _ _ _ (λ random' size below. rows_as random') shares_one
 
 module _ {O : Ops} (F : LetterField O) {told : Told} {stamp : ℕ} {ks constants random : List ℕ} (C : OneCut O told stamp constants random)
     (K : AnyKeepers told.order ks) (constants' : List ℕ) (s : length constants' ≡ length constants) (b : Below O.q constants') where
   -- a keeper's letter tells its share words, and they tell its letter
-  letters-as : (random' : List ℕ) → length random' ≡ length constants' * told.order.t → Below O.q random' → (x : ℕ) → In x ks
-      → (shareWords O told.order.t x constants' random' ≡ shareWords O told.order.t x constants random)
-      ↔ (slot_of (cutTray O told stamp constants' random') x ≡ slot_of (cutTray O told stamp constants random) x)
-  unfolding letterOf
-  letters-as random' size below x m =
-      let k = lawful-keeper-facts told.order x (K.keepers x m) in
+  letters_as : (random' : List ℕ) → length random' ≡ length constants' * told.order.t → Below O.q random' → (x : ℕ) → In x ks
+      → (share_words O told.order.t x constants' random' ≡ share_words O told.order.t x constants random)
+      ↔ (slot_of (cut_tray O told stamp constants' random') x ≡ slot_of (cut_tray O told stamp constants random) x)
+  unfolding letter_of
+  letters_as random' size below x m =
+      let k = lawful_keeper_facts told.order x (K.keepers x m) in
       let W = C.of_words in
       let D : OneCut O told stamp constants' random' = record {
         of_words = record {
-          order-lawful = W.order-lawful;
-          length-lawful = rw s W.length-lawful;
-          constants-below = b;
-          random-size = size;
-          random-below = below;
+          order_lawful = W.order_lawful;
+          length_lawful = rw s W.length_lawful;
+          constants_below = b;
+          random_size = size;
+          random_below = below;
         };
-        told-lawful = C.told-lawful;
-        stamp-lawful = C.stamp-lawful;
+        told_lawful = C.told_lawful;
+        stamp_lawful = C.stamp_lawful;
       } in
       (λ e. rw (slot-cut F D x k, slot-cut F C x k, s, e), λ e. cc (shares_cut F D x k, shares_cut F C x k))
 
   -- "For any t keepers and two secrets of equal length, for each list of random words for the first exactly one for the second gives those
   -- keepers the same bytes." Said of letters of any field words.
-  pub secrecy : ExactlyOne (GivesSameBytes O told stamp ks (cutTray O told stamp constants random) constants')
-  secrecy = exactly-one-as O told.order.t ks constants' _ _ _ _ letters-as (shares-one F C.of_words K constants' s b)
+  pub secrecy : ExactlyOne (GivesSameBytes O told stamp ks (cut_tray O told stamp constants random) constants')
+  secrecy = exactly_one_as O told.order.t ks constants' _ _ _ _ letters_as (shares_one F C.of_words K constants' s b)
 
 -- The page's case: "modulo the prime 257", and both secrets are bytes. "Demand 3 fixes the key like the stamp": both are cut
 -- under the same order, key and stamp.
-pub demand-3 : {told : Told} {stamp : ℕ} {ks secret random : List ℕ} → OneCut mod257 told stamp secret random → AnyKeepers told.order ks
-    → (secret' : List ℕ) → length secret' ≡ length secret → Below 256 secret' → ExactlyOne (GivesSameBytes mod257 told stamp ks (cutTray mod257 told stamp secret random) secret')
-demand-3 C K secret' s b = secrecy mod257-letters C K secret' s (λ i h. omega (arith, b i h))
+pub demand_3 : {told : Told} {stamp : ℕ} {ks secret random : List ℕ} → OneCut mod257 told stamp secret random → AnyKeepers told.order ks
+    → (secret' : List ℕ) → length secret' ≡ length secret → Below 256 secret' → ExactlyOne (GivesSameBytes mod257 told stamp ks (cut_tray mod257 told stamp secret random) secret')
+demand_3 C K secret' s b = secrecy mod257-letters C K secret' s (λ i h. omega (arith, b i h))
 
 -- "demand 3 holds for equally long lists of words too": each word is 0..256, and what the keepers have are rows of share words.
-pub demand-3-words : {order : Order} {ks words random : List ℕ} → OneWords mod257 order words random → AnyKeepers order ks
-    → (words' : List ℕ) → length words' ≡ length words → Below 257 words' → ExactlyOne (GivesSameRows mod257 order ks (shareRows mod257 order words random) words')
-demand-3-words W K words' s b = words-secrecy mod257-letters W K words' s b
+pub demand_3_words : {order : Order} {ks words random : List ℕ} → OneWords mod257 order words random → AnyKeepers order ks
+    → (words' : List ℕ) → length words' ≡ length words → Below 257 words' → ExactlyOne (GivesSameRows mod257 order ks (share_rows mod257 order words random) words')
+demand_3_words W K words' s b = words_secrecy mod257-letters W K words' s b

@@ -12,7 +12,7 @@ use Rattle.cut.specs.Cut.{CutDone}
 use Rattle.join.specs.declared.Joined.{Joined}
 use Rattle.join.specs.Join.{Outcome, few, apart, wide, joined, JoinDone, refused, judged}
 use Rattle.desk.specs.declared.Stored.{Stored}
-use Rattle.desk.specs.Desk.{storeLeaves, StoreDone}
+use Rattle.desk.specs.Desk.{store_leaves, StoreDone}
 use Rattle.compare.specs.declared.Compared.{Compared}
 use Rattle.compare.specs.Compare.{CompareDone}
 use Rattle.compare.specs.Compare as compare
@@ -20,41 +20,41 @@ use Rattle.report_text.specs.declared.answer.Answered.{Answered}
 use Rattle.report_text.specs.Report.{Reported}
 
 -- the cut's tray
-pub cut-unchanged : (O : Ops) (told : Told) (stamp : ℕ) (secret random tray : List ℕ) {number : ℕ} {left : List ℕ}
+pub cut_unchanged : (O : Ops) (told : Told) (stamp : ℕ) (secret random tray : List ℕ) {number : ℕ} {left : List ℕ}
     → CutDone O told stamp secret random tray number left → (number ≡ 0 → ⊥) → left ≡ tray
-cut-unchanged O told stamp secret random tray D wrong = unchanged D wrong
+cut_unchanged O told stamp secret random tray D wrong = unchanged D wrong
 
 -- the rows of a cut of words
-pub words-unchanged : (O : Ops) (order : Order) (words random rows : List ℕ) {number : ℕ} {left : List ℕ}
+pub words_unchanged : (O : Ops) (order : Order) (words random rows : List ℕ) {number : ℕ} {left : List ℕ}
     → WordsDone O order words random rows number left → (number ≡ 0 → ⊥) → left ≡ rows
-words-unchanged O order words random rows D wrong = unchanged D wrong
+words_unchanged O order words random rows D wrong = unchanged D wrong
 
-outcome-unchanged : {O : Ops} {t f n l : ℕ} {us : ℕ → Bool} {word : ℕ → ℕ → ℕ} {room left : List ℕ} {result : Joined}
+outcome_unchanged : {O : Ops} {t f n l : ℕ} {us : ℕ → Bool} {word : ℕ → ℕ → ℕ} {room left : List ℕ} {result : Joined}
     → Outcome O t f n us word l room result left → (result.number ≡ 0 → ⊥) → left ≡ room
-outcome-unchanged (few h) wrong = refl
-outcome-unchanged (apart h none) wrong = refl
-outcome-unchanged (wide ps R e) wrong = refl
-outcome-unchanged (joined ps R e) wrong = absurd (wrong refl)
+outcome_unchanged (few h) wrong = refl
+outcome_unchanged (apart h none) wrong = refl
+outcome_unchanged (wide ps R e) wrong = refl
+outcome_unchanged (joined ps R e) wrong = absurd (wrong refl)
 
 -- the join's room
-pub join-unchanged : {O : Ops} {told : Told} {stamp l : ℕ} {tray room left : List ℕ} {result : Joined}
+pub join_unchanged : {O : Ops} {told : Told} {stamp l : ℕ} {tray room left : List ℕ} {result : Joined}
     → JoinDone O told stamp l tray room result left → (result.number ≡ 0 → ⊥) → left ≡ room
-join-unchanged (refused h) wrong = refl
-join-unchanged (judged e D) wrong = outcome-unchanged D wrong
+join_unchanged (refused h) wrong = refl
+join_unchanged (judged e D) wrong = outcome_unchanged D wrong
 
 -- the desk's slot
-pub store-unchanged : {told : Told} {keeper : ℕ} {held letter left : List ℕ} {result : Stored}
+pub store_unchanged : {told : Told} {keeper : ℕ} {held letter left : List ℕ} {result : Stored}
     → StoreDone told keeper held letter result left → (result.number ≡ 0 → ⊥) → left ≡ held
-unfolding storeLeaves
-store-unchanged D wrong = D.leaves ∙ rw (ne_eqb _ 0 (λ e. wrong (D.number ∙ e)))
+unfolding store_leaves
+store_unchanged D wrong = D.leaves ∙ rw (ne_eqb _ 0 (λ e. wrong (D.number ∙ e)))
 
 -- the list of what changed between two trays
-pub compare-unchanged : {order : Order} {first second : List ℕ} {list left : List (List ℕ)} {result : Compared}
+pub compare_unchanged : {order : Order} {first second : List ℕ} {list left : List (List ℕ)} {result : Compared}
     → CompareDone order first second list result left → (result.number ≡ 0 → ⊥) → left ≡ list
-compare-unchanged (compare.refused h) wrong = refl
-compare-unchanged (compare.short e l) wrong = refl
-compare-unchanged (compare.told e l) wrong = absurd (wrong refl)
+compare_unchanged (compare.refused h) wrong = refl
+compare_unchanged (compare.short e l) wrong = refl
+compare_unchanged (compare.told e l) wrong = absurd (wrong refl)
 
 -- The report always writes, a refusal too: its own rule is that nothing past what it writes is changed.
-pub report-unchanged : {input before after : List ℕ} {answered : Answered} → Reported input before answered after → drop answered.count after ≡ drop answered.count before
-report-unchanged {before = before} R = rw (R.written, R.counted) (drop_at R.bytes (drop (length R.bytes) before) (length R.bytes) refl)
+pub report_unchanged : {input before after : List ℕ} {answered : Answered} → Reported input before answered after → drop answered.count after ≡ drop answered.count before
+report_unchanged {before = before} R = rw (R.written, R.counted) (drop_at R.bytes (drop (length R.bytes) before) (length R.bytes) refl)

@@ -7,39 +7,39 @@ use Rattle.std.proofs.Common.{arith}
 use borrow.Author.Tests.{eq-eqb}
 use Rattle.header.specs.declared.told.Told.{Told}
 use Rattle.header.specs.declared.head.Head.{Head}
-use Rattle.header.specs.HeadLaws.{lawful-head-facts}
+use Rattle.header.specs.HeadLaws.{lawful_head_facts}
 use Rattle.header.specs.Passing.{passed}
-use Rattle.header.specs.ToldLaws.{same-told-equal, equal-same-told}
+use Rattle.header.specs.ToldLaws.{same_told_equal, equal_same_told}
 use Rattle.format.specs.declared.reader.Reading.{Reading}
 use Rattle.format.specs.declared.reader.Reading.TheVariants.{Good, Bad}
 use Rattle.format.specs.Reading.{read_of}
-use Rattle.format.specs.ReadingBounds.{good-lawful}
-use Rattle.desk.specs.Desk.{ofDesk, stampIn, stampHeld}
+use Rattle.format.specs.ReadingBounds.{good_lawful}
+use Rattle.desk.specs.Desk.{of_desk, stamp_in, stamp_held}
 
 -- a good letter of this desk's order, key and keeper
 pub record GoodHere (told : Told) (keeper : ℕ) (slot : List ℕ) : Type 0 where
   pub head : Head
   pub reads : read_of slot ≡ Good head
-  pub of-told : head.told ≡ told
-  pub of-keeper : head.keeper ≡ keeper
+  pub of_told : head.told ≡ told
+  pub of_keeper : head.keeper ≡ keeper
 
 module _ (told : Told) (keeper : ℕ) (slot : List ℕ) where
-  pub good-stamp : (good : GoodHere told keeper slot) → (stampHeld told keeper slot ≡ good.head.stamp) × (0 < stampHeld told keeper slot)
-  unfolding stampHeld
-  good-stamp good =
+  pub good_stamp : (good : GoodHere told keeper slot) → (stamp_held told keeper slot ≡ good.head.stamp) × (0 < stamp_held told keeper slot)
+  unfolding stamp_held
+  good_stamp good =
       let h = good.head in
-      let ours : ofDesk told keeper h ≡ true = rw (equal-same-told h.told told good.of-told, eq-eqb h.keeper keeper good.of-keeper) in
-      let stamp : stampIn told keeper (read_of slot) ≡ h.stamp = rw (good.reads, ours) in
-      (stamp, omega (arith, lawful-head-facts h (good-lawful slot h good.reads), stamp))
+      let ours : of_desk told keeper h ≡ true = rw (equal_same_told h.told told good.of_told, eq-eqb h.keeper keeper good.of_keeper) in
+      let stamp : stamp_in told keeper (read_of slot) ≡ h.stamp = rw (good.reads, ours) in
+      (stamp, omega (arith, lawful_head_facts h (good_lawful slot h good.reads), stamp))
 
-  pub stamp-good : 0 < stampHeld told keeper slot → GoodHere told keeper slot
-  unfolding stampHeld
-  stamp-good = read (read_of slot) refl
+  pub stamp_good : 0 < stamp_held told keeper slot → GoodHere told keeper slot
+  unfolding stamp_held
+  stamp_good = read (read_of slot) refl
     where
-      read : (reading : Reading) → read_of slot ≡ reading → 0 < stampIn told keeper reading → GoodHere told keeper slot
-      read (Good h) reads stamped = ours (ofDesk told keeper h) refl stamped
+      read : (reading : Reading) → read_of slot ≡ reading → 0 < stamp_in told keeper reading → GoodHere told keeper slot
+      read (Good h) reads stamped = ours (of_desk told keeper h) refl stamped
         where
-          ours : (our : Bool) → ofDesk told keeper h ≡ our → 0 < cond our h.stamp 0 → GoodHere told keeper slot
-          ours true e stamped = record { head = h; reads = reads; of-told = search (passed, same-told-equal); of-keeper = search passed }
+          ours : (our : Bool) → of_desk told keeper h ≡ our → 0 < cond our h.stamp 0 → GoodHere told keeper slot
+          ours true e stamped = record { head = h; reads = reads; of_told = search (passed, same_told_equal); of_keeper = search passed }
           ours false e stamped = absurd (omega arith)
       read (Bad number place) reads stamped = absurd (omega arith)

@@ -1,8 +1,8 @@
 // The keeper's desk: one held slot, lent.
 ghost use Rattle.std.specs.Prelude.{◌≡◌, ◌&&◌, eqb, length};
-ghost use Rattle.lists.specs.SameBytes.{sameBytes};
+ghost use Rattle.lists.specs.SameBytes.{same_bytes};
 ghost use Rattle.format.specs.Reading.{read_of, place_of};
-ghost use Rattle.desk.specs.Desk.{ofDesk, stampHeld, deskRight, against, offered, storeNumber, storePlace, StoreDone, fetchNumber, fetched};
+ghost use Rattle.desk.specs.Desk.{of_desk, stamp_held, desk_right, against, offered, store_number, store_place, StoreDone, fetch_number, fetched};
 
 use block::bytes;
 use format::reader::{Reading, read};
@@ -19,21 +19,21 @@ pub struct Stored {
 
 // Whether there is such a desk.
 fn right(told: Told, keeper: usize) -> bool
-    ensures { result ≡ deskRight told keeper }
+    ensures { result ≡ desk_right told keeper }
 {
     told::lawful(told) && order::has_keeper(told.order, keeper)
 }
 
 // Whether a head is of this desk's order, key and keeper.
 fn is_ours(told: Told, keeper: usize, h: Head) -> bool
-    ensures { result ≡ ofDesk told keeper h }
+    ensures { result ≡ of_desk told keeper h }
 {
     told::same(h.told, told) && h.keeper == keeper
 }
 
 // The stamp of a slot's letter where it is good for this desk, and 0 where it is not.
 pub fn stamp_held(told: Told, keeper: usize, slot: &[u8]) -> u32
-    ensures { result ≡ stampHeld told keeper slot.now }
+    ensures { result ≡ stamp_held told keeper slot.now }
 {
     match read(slot) {
         Reading::Good(h) => { if is_ours(told, keeper, h) { h.stamp } else { 0 } }
@@ -57,7 +57,7 @@ fn copy(held: &mut [u8], letter: &[u8])
 
 // A good letter of this desk with its stamp, against what is held: 0, 14 or 15.
 fn against_held(told: Told, keeper: usize, stamp: u32, held: &[u8], letter: &[u8]) -> u32
-    ensures { result ≡ against stamp (stampHeld told keeper held.now) (sameBytes held.now letter.now) }
+    ensures { result ≡ against stamp (stamp_held told keeper held.now) (same_bytes held.now letter.now) }
 {
     let before = stamp_held(told, keeper, held);
     if before < stamp {
@@ -99,7 +99,7 @@ fn are_slots(held: &[u8], letter: &[u8]) -> bool
 }
 
 fn judge(told: Told, keeper: usize, held: &[u8], letter: &[u8]) -> Stored
-    ensures { (result.number ≡ storeNumber told keeper held.now letter.now) × (result.place ≡ storePlace told keeper held.now letter.now) }
+    ensures { (result.number ≡ store_number told keeper held.now letter.now) × (result.place ≡ store_place told keeper held.now letter.now) }
 {
     if !right(told, keeper) {
         return Stored {
@@ -129,7 +129,7 @@ pub fn store(told: Told, keeper: usize, held: &mut [u8], letter: &[u8]) -> Store
 
 // The number that fetching has: 1, 4, 17, or 0.
 pub fn fetch_number(told: Told, keeper: usize, held: &[u8]) -> u32
-    ensures { result ≡ fetchNumber told keeper held.now }
+    ensures { result ≡ fetch_number told keeper held.now }
 {
     if !right(told, keeper) {
         return 1;

@@ -3,5 +3,5 @@
 use Rattle.std.specs.Prelude.{ℕ, cond, ltb, ℤ, pos}
 
 -- "the number that the call gave, 0 to 99; 100 for trouble with files"
-abbrev pub statusOf : ℕ → ℤ
-statusOf number = pos (cond (ltb number 100) number 100)
+abbrev pub status_of : ℕ → ℤ
+status_of number = pos (cond (ltb number 100) number 100)

@@ -1,19 +1,19 @@
 // How a command ends: with the number of its call, which is said in words; with 99 where trays differ; with 100 where files are the trouble.
 ghost use Rattle.std.specs.Prelude.{◌≡◌, cond, eqb, pos};
-ghost use Rattle.ending.specs.Status.{statusOf};
+ghost use Rattle.ending.specs.Status.{status_of};
 
 use saying::numbers::explain;
 
 // A number as a status. The library gives none above 99.
 fn as_status(number: u32) -> i32
-    ensures { result ≡ statusOf number }
+    ensures { result ≡ status_of number }
 {
     if number < 100 { number as i32 } else { 100 }
 }
 
 // Says what a number means that a call gave, with the place of a fault in a letter, and ends with it.
 pub fn answered(number: u32, place: u32) -> i32
-    ensures { result ≡ statusOf number }
+    ensures { result ≡ status_of number }
 {
     explain(number, place);
     as_status(number)

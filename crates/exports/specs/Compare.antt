@@ -5,5 +5,5 @@ use Rattle.compare.specs.Compare.{compared}
 use Rattle.exports.specs.declared.comparing.CompareResult.{CompareResult}
 
 -- C's struct, as the comparison's
-abbrev pub comparedAs : CompareResult → Compared
-comparedAs r = compared r.number r.count
+abbrev pub compared_as : CompareResult → Compared
+compared_as r = compared r.number r.count

@@ -4,5 +4,5 @@ use Rattle.join.specs.declared.Joined.{Joined}
 use Rattle.exports.specs.declared.joining.JoinResult.{JoinResult}
 
 -- C's struct, as the join's
-abbrev pub joinedAs : JoinResult → Joined
-joinedAs r = record { number = r.number; usable = r.usable; need = r.need; set = r.set; trials = r.trials }
+abbrev pub joined_as : JoinResult → Joined
+joined_as r = record { number = r.number; usable = r.usable; need = r.need; set = r.set; trials = r.trials }

@@ -5,5 +5,5 @@ use Rattle.pick.specs.Pick.{picked}
 use Rattle.exports.specs.declared.picking.PickResult.{PickResult}
 
 -- C's struct, as the pick's
-abbrev pub pickedAs : PickResult → Picked
-pickedAs r = picked r.number r.stamp r.length
+abbrev pub picked_as : PickResult → Picked
+picked_as r = picked r.number r.stamp r.length

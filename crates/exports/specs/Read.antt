@@ -21,5 +21,5 @@ numbers number place h = record {
 }
 
 -- of a good letter and of a faulty one
-abbrev pub readResult : Reading → ReadResult
-readResult r = numbers (number_of r) (place_of r) (read_head r)
+abbrev pub read_result : Reading → ReadResult
+read_result r = numbers (number_of r) (place_of r) (read_head r)

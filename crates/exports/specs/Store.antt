@@ -4,5 +4,5 @@ use Rattle.desk.specs.declared.Stored.{Stored}
 use Rattle.exports.specs.declared.keeping.StoreResult.{StoreResult}
 
 -- C's struct, as the desk's
-abbrev pub storedAs : StoreResult → Stored
-storedAs r = record { number = r.number; place = r.place }
+abbrev pub stored_as : StoreResult → Stored
+stored_as r = record { number = r.number; place = r.place }

@@ -4,14 +4,14 @@ use Rattle.std.specs.Prelude.{ℕ, ◌<◌, Bool, true, false, cond, ◌&&◌, L
 use Rattle.std.proofs.Common.{arith}
 use Rattle.header.specs.declared.told.Told.{Told}
 use Rattle.format.specs.Reading.{read_of, place_of}
-use Rattle.format.specs.ReadingBounds.{small-place}
-use Rattle.desk.specs.Desk.{deskRight, storePlace}
+use Rattle.format.specs.ReadingBounds.{small_place}
+use Rattle.desk.specs.Desk.{desk_right, store_place}
 
-pub small-or-none : (test : Bool) (place : ℕ) → place < 512 → cond test place 0 < 512
-small-or-none true place h = h
-small-or-none false place h = omega arith
+pub small_or_none : (test : Bool) (place : ℕ) → place < 512 → cond test place 0 < 512
+small_or_none true place h = h
+small_or_none false place h = omega arith
 
-pub small-store-place : (told : Told) (keeper : ℕ) (held letter : List ℕ) → storePlace told keeper held letter < 512
-unfolding storePlace
-small-store-place told keeper held letter =
-    small-or-none (deskRight told keeper && (eqb (length held) 2048 && eqb (length letter) 2048)) (place_of (read_of letter)) (small-place letter)
+pub small_store_place : (told : Told) (keeper : ℕ) (held letter : List ℕ) → store_place told keeper held letter < 512
+unfolding store_place
+small_store_place told keeper held letter =
+    small_or_none (desk_right told keeper && (eqb (length held) 2048 && eqb (length letter) 2048)) (place_of (read_of letter)) (small_place letter)

@@ -1,7 +1,7 @@
 // cs_compare: what changed between two trays.
 ghost use Rattle.compare.specs.Compare.{CompareDone};
-ghost use Rattle.exports.specs.Told.{orderTold};
-ghost use Rattle.exports.specs.Compare.{comparedAs};
+ghost use Rattle.exports.specs.Told.{order_told};
+ghost use Rattle.exports.specs.Compare.{compared_as};
 
 use crate::told::order_told;
 use compare::compare;
@@ -22,7 +22,7 @@ pub extern "C" fn cs_compare(
     second: &[u8],
     list: &mut [[u16; 5]],
 ) -> CompareResult
-    ensures { CompareDone (orderTold t f n) first.now second.now list.old (comparedAs result) list.new }
+    ensures { CompareDone (order_told t f n) first.now second.now list.old (compared_as result) list.new }
 {
     let compared = compare(order_told(t, f, n), first, second, list);
     CompareResult {

@@ -1,7 +1,7 @@
 // cs_cut: a secret and random words become a tray.
 ghost use Rattle.field.specs.Modulo.{mod257};
 ghost use Rattle.cut.specs.Cut.{CutDone};
-ghost use Rattle.exports.specs.Told.{asTold};
+ghost use Rattle.exports.specs.Told.{as_told};
 
 use crate::told::as_told;
 use cut::secret::cut;
@@ -17,7 +17,7 @@ pub extern "C" fn cs_cut(
     random: &[u16],
     tray: &mut [u8],
 ) -> u32
-    ensures { CutDone mod257 (asTold t f n key) stamp secret.now random.now tray.old result tray.new }
+    ensures { CutDone mod257 (as_told t f n key) stamp secret.now random.now tray.old result tray.new }
 {
     cut(as_told(t, f, n, key), stamp, secret, random, tray)
 }

@@ -3,7 +3,7 @@ ghost use Rattle.std.specs.Prelude.{◌≡◌};
 ghost use Rattle.field.specs.Modulo.{mod257};
 ghost use Rattle.moving.specs.Cutting.{MoveCutDone};
 ghost use Rattle.weighing.specs.Weighing.{WeighDone};
-ghost use Rattle.exports.specs.Move.{asMove, cutAs, weighedAs};
+ghost use Rattle.exports.specs.Move.{as_move, cut_as, weighed_as};
 
 use crate::told::{as_told, order_told};
 use moving::cutting::cut;
@@ -38,7 +38,7 @@ fn as_move(
     length: u32,
     stamp: u32,
 ) -> Move
-    ensures { result ≡ asMove old_t old_f old_n t f n key length stamp }
+    ensures { result ≡ as_move old_t old_f old_n t f n key length stamp }
 {
     let old = order_told(old_t, old_f, old_n);
     let told = as_told(t, f, n, key);
@@ -66,7 +66,7 @@ pub extern "C" fn cs_move_cut(
     random: &[u16],
     tray: &mut [u8],
 ) -> MoveCutResult
-    ensures { MoveCutDone mod257 (asMove old_t old_f old_n t f n key length stamp) keeper letter.now random.now tray.old (cutAs result) tray.new }
+    ensures { MoveCutDone mod257 (as_move old_t old_f old_n t f n key length stamp) keeper letter.now random.now tray.old (cut_as result) tray.new }
 {
     let m = as_move(old_t, old_f, old_n, t, f, n, key, length, stamp);
     let answer = cut(m, keeper as usize, letter, random, tray);
@@ -92,7 +92,7 @@ pub extern "C" fn cs_move_weigh(
     letters: &[u8],
     slot: &mut [u8],
 ) -> MoveWeighResult
-    ensures { WeighDone mod257 (asMove old_t old_f old_n t f n key length stamp) keepers.now keeper letters.now slot.old (weighedAs result) slot.new }
+    ensures { WeighDone mod257 (as_move old_t old_f old_n t f n key length stamp) keepers.now keeper letters.now slot.old (weighed_as result) slot.new }
 {
     let m = as_move(old_t, old_f, old_n, t, f, n, key, length, stamp);
     let answer = weigh(m, keepers, keeper as usize, letters, slot);

@@ -1,8 +1,8 @@
 // cs_join: the secret of a tray, or why not.
 ghost use Rattle.field.specs.Modulo.{mod257};
 ghost use Rattle.join.specs.Join.{JoinDone};
-ghost use Rattle.exports.specs.Told.{asTold};
-ghost use Rattle.exports.specs.Join.{joinedAs};
+ghost use Rattle.exports.specs.Told.{as_told};
+ghost use Rattle.exports.specs.Join.{joined_as};
 
 use crate::told::as_told;
 use join::join;
@@ -28,7 +28,7 @@ pub extern "C" fn cs_join(
     tray: &[u8],
     room: &mut [u8],
 ) -> JoinResult
-    ensures { JoinDone mod257 (asTold t f n key) stamp length tray.now room.old (joinedAs result) room.new }
+    ensures { JoinDone mod257 (as_told t f n key) stamp length tray.now room.old (joined_as result) room.new }
 {
     let l = length as usize;
     let joined = join(as_told(t, f, n, key), stamp, l, tray, room);

@@ -1,8 +1,8 @@
 // cs_store and cs_fetch: the keeper's desk.
 ghost use Rattle.std.specs.Prelude.{◌≡◌};
-ghost use Rattle.desk.specs.Desk.{StoreDone, fetchNumber};
-ghost use Rattle.exports.specs.Told.{asTold};
-ghost use Rattle.exports.specs.Store.{storedAs};
+ghost use Rattle.desk.specs.Desk.{StoreDone, fetch_number};
+ghost use Rattle.exports.specs.Told.{as_told};
+ghost use Rattle.exports.specs.Store.{stored_as};
 
 use crate::told::as_told;
 use desk::{fetch_number, store};
@@ -24,7 +24,7 @@ pub extern "C" fn cs_store(
     held: &mut [u8],
     letter: &[u8],
 ) -> StoreResult
-    ensures { StoreDone (asTold t f n key) keeper held.old letter.now (storedAs result) held.new }
+    ensures { StoreDone (as_told t f n key) keeper held.old letter.now (stored_as result) held.new }
 {
     let stored = store(as_told(t, f, n, key), keeper as usize, held, letter);
     StoreResult {
@@ -35,7 +35,7 @@ pub extern "C" fn cs_store(
 
 #[unsafe(no_mangle)]
 pub extern "C" fn cs_fetch(t: u32, f: u32, n: u32, key: u32, keeper: u32, held: &[u8]) -> u32
-    ensures { result ≡ fetchNumber (asTold t f n key) keeper held.now }
+    ensures { result ≡ fetch_number (as_told t f n key) keeper held.now }
 {
     fetch_number(as_told(t, f, n, key), keeper as usize, held)
 }

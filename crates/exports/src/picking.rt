@@ -1,8 +1,8 @@
 // cs_pick: which stamp and length of a tray to join.
 ghost use Rattle.field.specs.Modulo.{mod257};
 ghost use Rattle.pick.specs.Pick.{PickDone};
-ghost use Rattle.exports.specs.Told.{asTold};
-ghost use Rattle.exports.specs.Pick.{pickedAs};
+ghost use Rattle.exports.specs.Told.{as_told};
+ghost use Rattle.exports.specs.Pick.{picked_as};
 
 use crate::told::as_told;
 use pick::pick;
@@ -17,7 +17,7 @@ pub struct PickResult {
 
 #[unsafe(no_mangle)]
 pub extern "C" fn cs_pick(t: u32, f: u32, n: u32, key: u32, tray: &[u8]) -> PickResult
-    ensures { PickDone mod257 (asTold t f n key) tray.now (pickedAs result) }
+    ensures { PickDone mod257 (as_told t f n key) tray.now (picked_as result) }
 {
     let picked = pick(as_told(t, f, n, key), tray);
     PickResult {

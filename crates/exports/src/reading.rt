@@ -1,8 +1,8 @@
 // cs_read: what a slot reads as.
 ghost use Rattle.std.specs.Prelude.{◌≡◌, true};
-ghost use Rattle.header.specs.Head.{lawfulHead};
+ghost use Rattle.header.specs.Head.{lawful_head};
 ghost use Rattle.format.specs.Reading.{read_of};
-ghost use Rattle.exports.specs.Read.{readResult, numbers};
+ghost use Rattle.exports.specs.Read.{read_result, numbers};
 
 use format::reader;
 use format::reader::Reading;
@@ -23,7 +23,7 @@ pub struct ReadResult {
 }
 
 fn good(h: Head) -> ReadResult
-    requires { lawfulHead h ≡ true }
+    requires { lawful_head h ≡ true }
     ensures { result ≡ numbers 0 0 h }
 {
     let o = h.told.order;
@@ -42,7 +42,7 @@ fn good(h: Head) -> ReadResult
 
 #[unsafe(no_mangle)]
 pub extern "C" fn cs_read(slot: &[u8]) -> ReadResult
-    ensures { result ≡ readResult (read_of slot.now) }
+    ensures { result ≡ read_result (read_of slot.now) }
 {
     match reader::read(slot) {
         Reading::Good(h) => good(h),

@@ -1,12 +1,12 @@
 // An order as callers tell it, three numbers; and the number of a key beside it.
 ghost use Rattle.std.specs.Prelude.{◌≡◌};
-ghost use Rattle.exports.specs.Told.{orderTold, asTold};
+ghost use Rattle.exports.specs.Told.{order_told, as_told};
 
 use header::order::Order;
 use header::told::Told;
 
 pub fn order_told(t: u32, f: u32, n: u32) -> Order
-    ensures { result ≡ orderTold t f n }
+    ensures { result ≡ order_told t f n }
 {
     Order {
         t: t as usize,
@@ -16,7 +16,7 @@ pub fn order_told(t: u32, f: u32, n: u32) -> Order
 }
 
 pub fn as_told(t: u32, f: u32, n: u32, key: u32) -> Told
-    ensures { result ≡ asTold t f n key }
+    ensures { result ≡ as_told t f n key }
 {
     let order = order_told(t, f, n);
     Told {

@@ -28,6 +28,6 @@ entry_lt a h = ltb-true _ _ (suited a h).0
 pub entry_zero : get_or reciprocals 0 0 ≡ 0
 entry_zero = eqb-true _ _ (suited 0 (omega arith)).1
 
-pub product-one : (a : ℕ) → a < 257 → (a ≡ 0 → ⊥) → a * get_or reciprocals a 0 % 257 ≡ 1
-product-one zero h other = absurd (other refl)
-product-one (suc i) h other = eqb-true _ _ (suited (suc i) h).1
+pub product_one : (a : ℕ) → a < 257 → (a ≡ 0 → ⊥) → a * get_or reciprocals a 0 % 257 ≡ 1
+product_one zero h other = absurd (other refl)
+product_one (suc i) h other = eqb-true _ _ (suited (suc i) h).1

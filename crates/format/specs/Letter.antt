@@ -6,25 +6,25 @@ use Rattle.lists.specs.Pieces.{pieces}
 use Rattle.block.specs.Words.{bytes_of}
 use Rattle.block.specs.Check.{sealed}
 use Rattle.header.specs.declared.head.Head.{Head}
-use Rattle.header.specs.Head.{headWords}
+use Rattle.header.specs.Head.{head_words}
 
 -- "A letter is L/238 blocks, rounded up"
-unfoldable pub blocksFor : ℕ → ℕ
-blocksFor l = (l + 237) / 238
+unfoldable pub blocks_for : ℕ → ℕ
+blocks_for l = (l + 237) / 238
 
 -- the 238 share words of block p; "share words past L are 0"
-unfoldable pub blockShares : List ℕ → ℕ → List ℕ
-blockShares shares p = listed (λ i. get_or shares (238 * p + i) 0) 238
+unfoldable pub block_shares : List ℕ → ℕ → List ℕ
+block_shares shares p = listed (λ i. get_or shares (238 * p + i) 0) 238
 
 -- the 512 bytes of block p
-unfoldable pub blockBytes : ℕ → ℕ → Head → List ℕ → ℕ → List ℕ
-blockBytes mark from h shares p = bytes_of (sealed (headWords mark from h p ++ blockShares shares p))
+unfoldable pub block_bytes : ℕ → ℕ → Head → List ℕ → ℕ → List ℕ
+block_bytes mark from h shares p = bytes_of (sealed (head_words mark from h p ++ block_shares shares p))
 
 -- its blocks; "the rest of the slot is zero bytes"
-unfoldable pub slotBytes : ℕ → ℕ → Head → List ℕ → List ℕ
-slotBytes mark from h shares =
-    pieces (blockBytes mark from h shares) (blocksFor h.length) ++ replicate (2048 - 512 * blocksFor h.length) 0
+unfoldable pub slot_bytes : ℕ → ℕ → Head → List ℕ → List ℕ
+slot_bytes mark from h shares =
+    pieces (block_bytes mark from h shares) (blocks_for h.length) ++ replicate (2048 - 512 * blocks_for h.length) 0
 
 -- a letter: word 0 is 81, and word 14 "stays 0"
-abbrev pub letterBytes : Head → List ℕ → List ℕ
-letterBytes h shares = slotBytes 81 0 h shares
+abbrev pub letter_bytes : Head → List ℕ → List ℕ
+letter_bytes h shares = slot_bytes 81 0 h shares

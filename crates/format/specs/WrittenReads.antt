@@ -4,134 +4,134 @@ use Rattle.std.specs.Prelude.{ℕ, ◌+◌, ◌-◌, ◌*◌, ◌<◌, ◌≤◌
 use Rattle.std.proofs.Common.{◌∙◌, arith, length-append, take_at}
 use Rattle.std.proofs.Math.ListN.{length-replicate}
 use Rattle.std.proofs.Math.Seq.{drop_at}
-use Rattle.lists.specs.Below.{Below, below-append}
-use Rattle.lists.specs.Pieces.{pieces, pieces-same, length-pieces, part-pieces-append, below-pieces}
-use Rattle.lists.specs.Zeros.{below-zeros}
-use Rattle.block.specs.WordLaws.{words-bytes, below-bytes}
+use Rattle.lists.specs.Below.{Below, below_append}
+use Rattle.lists.specs.Pieces.{pieces, pieces_same, length-pieces, part-pieces-append, below_pieces}
+use Rattle.lists.specs.Zeros.{below_zeros}
+use Rattle.block.specs.WordLaws.{words_bytes, below_bytes}
 use Rattle.block.specs.Check.{sealed}
-use Rattle.block.specs.AtMostLaws.{zeros-at-most}
-use Rattle.block.specs.CheckLaws.{below-sealed}
+use Rattle.block.specs.AtMostLaws.{zeros_at_most}
+use Rattle.block.specs.CheckLaws.{below_sealed}
 use Rattle.header.specs.declared.head.Head.{Head}
-use Rattle.header.specs.Head.{lawfulHead, headOf, headWords}
-use Rattle.header.specs.HeadLaws.{HeadFacts, lawful-head-facts}
-use Rattle.header.specs.HeaderLaws.{length-head-words, head-of-words, from-written}
+use Rattle.header.specs.Head.{lawful_head, head_of, head_words}
+use Rattle.header.specs.HeadLaws.{HeadFacts, lawful_head_facts}
+use Rattle.header.specs.HeaderLaws.{length-head_words, head_of-words, from_written}
 use Rattle.format.specs.declared.reader.Reading.TheVariants.{Good}
-use Rattle.format.specs.Letter.{blockShares, blockBytes, slotBytes}
-use Rattle.format.specs.LetterSizes.{blockCount, BlocksFacts, blocks-facts, length-block-shares, length-block-bytes}
-use Rattle.format.specs.SlotWords.{sharesAt}
-use Rattle.format.specs.LetterBlockLaws.{sealed-append, below-block-words, block_written}
-use Rattle.format.specs.ShareLaws.{pieces-shares, below-block-shares}
-use Rattle.format.specs.Reading.{blockWords, letterBlockNumber, allShares, shares_of, endsInZeros, readAs}
-use Rattle.format.specs.GoodSlot.{slot-good}
+use Rattle.format.specs.Letter.{block_shares, block_bytes, slot_bytes}
+use Rattle.format.specs.LetterSizes.{block_count, BlocksFacts, blocks_facts, length-block_shares, length-block_bytes}
+use Rattle.format.specs.SlotWords.{shares_at}
+use Rattle.format.specs.LetterBlockLaws.{sealed-append, below_block_words, block_written}
+use Rattle.format.specs.ShareLaws.{pieces-shares, below_block_shares}
+use Rattle.format.specs.Reading.{block_words, letter_block_number, all_shares, shares_of, ends_in_zeros, read_as}
+use Rattle.format.specs.GoodSlot.{slot_good}
 
 -- a slot as written, with a mark and a number in word 14: it reads as good, and gives back what it was written from
 pub record ReadsAs (mark most from : ℕ) (h : Head) (shares : List ℕ) : Type 0 where
-  pub size : length (slotBytes mark from h shares) ≡ 2048
-  pub bytes : Below 256 (slotBytes mark from h shares)
-  pub good : readAs mark most (slotBytes mark from h shares) ≡ Good h
-  pub same-shares : shares_of (slotBytes mark from h shares) h.length ≡ shares
-  pub same_from : (p : ℕ) → p < blockCount h → get_or (blockWords (slotBytes mark from h shares) p) 14 0 ≡ from
+  pub size : length (slot_bytes mark from h shares) ≡ 2048
+  pub bytes : Below 256 (slot_bytes mark from h shares)
+  pub good : read_as mark most (slot_bytes mark from h shares) ≡ Good h
+  pub same_shares : shares_of (slot_bytes mark from h shares) h.length ≡ shares
+  pub same_from : (p : ℕ) → p < block_count h → get_or (block_words (slot_bytes mark from h shares) p) 14 0 ≡ from
 
 -- the zero bytes after the blocks
 abbrev rest : Head → List ℕ
-rest h = replicate (2048 - 512 * blockCount h) 0
+rest h = replicate (2048 - 512 * block_count h) 0
 
 module _ (mark from : ℕ) (h : Head) (shares : List ℕ) where
-  length-blocks : (k : ℕ) → length (pieces (blockBytes mark from h shares) k) ≡ k * 512
-  length-blocks k = length-pieces 512 (blockBytes mark from h shares) k (λ p l. length-block-bytes mark from h shares p)
+  length_blocks : (k : ℕ) → length (pieces (block_bytes mark from h shares) k) ≡ k * 512
+  length_blocks k = length-pieces 512 (block_bytes mark from h shares) k (λ p l. length-block_bytes mark from h shares p)
 
-  words-at : (p : ℕ) → p < blockCount h → blockWords (slotBytes mark from h shares) p ≡ sealed (headWords mark from h p ++ blockShares shares p)
-  unfolding slotBytes blockBytes
+  words-at : (p : ℕ) → p < block_count h → block_words (slot_bytes mark from h shares) p ≡ sealed (head_words mark from h p ++ block_shares shares p)
+  unfolding slot_bytes block_bytes
   words-at p l =
-      rw (part-pieces-append 512 (blockBytes mark from h shares) (blockCount h) (λ i within. length-block-bytes mark from h shares i) (rest h) p l)
-      (words-bytes (sealed (headWords mark from h p ++ blockShares shares p)))
+      rw (part-pieces-append 512 (block_bytes mark from h shares) (block_count h) (λ i within. length-block_bytes mark from h shares i) (rest h) p l)
+      (words_bytes (sealed (head_words mark from h p ++ block_shares shares p)))
 
-  shares_at : (p : ℕ) → p < blockCount h → sharesAt (slotBytes mark from h shares) p ≡ blockShares shares p
-  shares_at p l =
-      rw (words-at p l, sealed-append, drop_at (headWords mark from h p) _ 16 (length-head-words mark from h p))
-      (take_at (blockShares shares p) _ 238 (length-block-shares shares p))
+  shares_at_lem : (p : ℕ) → p < block_count h → shares_at (slot_bytes mark from h shares) p ≡ block_shares shares p
+  shares_at_lem p l =
+      rw (words-at p l, sealed-append, drop_at (head_words mark from h p) _ 16 (length-head_words mark from h p))
+      (take_at (block_shares shares p) _ 238 (length-block_shares shares p))
 
-  past-blocks : drop (512 * blockCount h) (slotBytes mark from h shares) ≡ rest h
-  unfolding slotBytes
-  past-blocks =
-      drop_at (pieces (blockBytes mark from h shares) (blockCount h)) (rest h) (512 * blockCount h) (omega (arith, length-blocks (blockCount h)))
+  past_blocks : drop (512 * block_count h) (slot_bytes mark from h shares) ≡ rest h
+  unfolding slot_bytes
+  past_blocks =
+      drop_at (pieces (block_bytes mark from h shares) (block_count h)) (rest h) (512 * block_count h) (omega (arith, length_blocks (block_count h)))
 
-  from_at : (p : ℕ) → p < blockCount h → get_or (blockWords (slotBytes mark from h shares) p) 14 0 ≡ from
-  from_at p l = rw (words-at p l, sealed-append) (from-written mark from h p _)
+  from_at_lem : (p : ℕ) → p < block_count h → get_or (block_words (slot_bytes mark from h shares) p) 14 0 ≡ from
+  from_at_lem p l = rw (words-at p l, sealed-append) (from_written mark from h p _)
 
-  module _ (most : ℕ) (marked : mark ≤ 256) (small : from ≤ 256) (le : from ≤ most) (lawful : lawfulHead h ≡ true) (size : length shares ≡ h.length) (below : Below 257 shares) where
+  module _ (most : ℕ) (marked : mark ≤ 256) (small : from ≤ 256) (le : from ≤ most) (lawful : lawful_head h ≡ true) (size : length shares ≡ h.length) (below : Below 257 shares) where
     facts : HeadFacts h
-    facts = lawful-head-facts h lawful
+    facts = lawful_head_facts h lawful
 
     blocks : BlocksFacts h.length
-    blocks = blocks-facts h.length facts.of-terms.length-least facts.of-terms.length_most
+    blocks = blocks_facts h.length facts.of_terms.length_least facts.of_terms.length_most
 
     more : ℕ
-    more = 238 * blockCount h - h.length
+    more = 238 * block_count h - h.length
 
-    filled : length shares + more ≡ blockCount h * 238
+    filled : length shares + more ≡ block_count h * 238
     unfolding more
     filled = omega (arith, blocks)
 
-    shares-all : allShares (slotBytes mark from h shares) (blockCount h) ≡ shares ++ replicate more 0
-    unfolding allShares
-    shares-all =
-        pieces-same (sharesAt (slotBytes mark from h shares)) (blockShares shares) (blockCount h) shares_at
-        ∙ pieces-shares shares (blockCount h) more filled
+    shares_all : all_shares (slot_bytes mark from h shares) (block_count h) ≡ shares ++ replicate more 0
+    unfolding all_shares
+    shares_all =
+        pieces_same (shares_at (slot_bytes mark from h shares)) (block_shares shares) (block_count h) shares_at_lem
+        ∙ pieces-shares shares (block_count h) more filled
 
-    ends-written : endsInZeros (slotBytes mark from h shares) h.length ≡ true
-    unfolding endsInZeros
-    ends-written =
-        rw (shares-all, drop_at shares (replicate more 0) h.length size, past-blocks, zeros-at-most 0 more)
-        (zeros-at-most 0 (2048 - 512 * blockCount h))
+    ends_written : ends_in_zeros (slot_bytes mark from h shares) h.length ≡ true
+    unfolding ends_in_zeros
+    ends_written =
+        rw (shares_all, drop_at shares (replicate more 0) h.length size, past_blocks, zeros_at_most 0 more)
+        (zeros_at_most 0 (2048 - 512 * block_count h))
 
-    length-letter : length (slotBytes mark from h shares) ≡ 2048
-    unfolding slotBytes
-    length-letter = simp (length-append, length-replicate, length-blocks) (omega (arith, blocks))
+    length-letter : length (slot_bytes mark from h shares) ≡ 2048
+    unfolding slot_bytes
+    length-letter = simp (length-append, length-replicate, length_blocks) (omega (arith, blocks))
 
-    first-written : headOf (blockWords (slotBytes mark from h shares) 0) ≡ h
-    first-written = rw (words-at 0 blocks.least, sealed-append) (head-of-words mark from h 0 _ facts)
+    first_written : head_of (block_words (slot_bytes mark from h shares) 0) ≡ h
+    first_written = rw (words-at 0 blocks.least, sealed-append) (head_of-words mark from h 0 _ facts)
 
-    below-words : (p : ℕ) → p < blockCount h → Below 257 (headWords mark from h p ++ blockShares shares p)
-    below-words p l =
-        below-block-words mark h p from (blockShares shares p) marked small lawful (omega (arith, blocks))
-        (below-block-shares shares (blockCount h) more filled below p l)
+    below_words : (p : ℕ) → p < block_count h → Below 257 (head_words mark from h p ++ block_shares shares p)
+    below_words p l =
+        below_block_words mark h p from (block_shares shares p) marked small lawful (omega (arith, blocks))
+        (below_block_shares shares (block_count h) more filled below p l)
 
-    faultless-written : (p : ℕ) → p < blockCount h → letterBlockNumber mark most h p (blockWords (slotBytes mark from h shares) p) ≡ 0
-    faultless-written p l =
-        rw (words-at p l) (block_written mark h p most from (blockShares shares p) le lawful (length-block-shares shares p) (below-words p l))
+    faultless_written : (p : ℕ) → p < block_count h → letter_block_number mark most h p (block_words (slot_bytes mark from h shares) p) ≡ 0
+    faultless_written p l =
+        rw (words-at p l) (block_written mark h p most from (block_shares shares p) le lawful (length-block_shares shares p) (below_words p l))
 
-    below-block : (p : ℕ) → p < blockCount h → Below 256 (blockBytes mark from h shares p)
-    unfolding blockBytes
-    below-block p l =
-        let words = headWords mark from h p ++ blockShares shares p in
-        below-bytes (sealed words) (λ i within. omega (arith, below-sealed words (below-words p l) i within))
+    below_block : (p : ℕ) → p < block_count h → Below 256 (block_bytes mark from h shares p)
+    unfolding block_bytes
+    below_block p l =
+        let words = head_words mark from h p ++ block_shares shares p in
+        below_bytes (sealed words) (λ i within. omega (arith, below_sealed words (below_words p l) i within))
 
-    below-letter : Below 256 (slotBytes mark from h shares)
-    unfolding slotBytes
-    below-letter =
-        below-append 256 (pieces (blockBytes mark from h shares) (blockCount h)) (rest h)
-        (below-pieces 256 (blockBytes mark from h shares) (blockCount h) below-block)
-        (below-zeros 255 (2048 - 512 * blockCount h))
+    below_letter : Below 256 (slot_bytes mark from h shares)
+    unfolding slot_bytes
+    below_letter =
+        below_append 256 (pieces (block_bytes mark from h shares) (block_count h)) (rest h)
+        (below_pieces 256 (block_bytes mark from h shares) (block_count h) below_block)
+        (below_zeros 255 (2048 - 512 * block_count h))
 
-    pub written-reads-as : ReadsAs mark most from h shares
-    written-reads-as = record {
+    pub written_reads_as : ReadsAs mark most from h shares
+    written_reads_as = record {
       size = length-letter;
-      bytes = below-letter;
-      good = slot-good mark most (slotBytes mark from h shares) h (record {
+      bytes = below_letter;
+      good = slot_good mark most (slot_bytes mark from h shares) h (record {
         size = length-letter;
-        first = first-written;
-        faultless = λ p l. faultless-written p (omega (arith, blocks));
-        ends = ends-written;
+        first = first_written;
+        faultless = λ p l. faultless_written p (omega (arith, blocks));
+        ends = ends_written;
       });
-      same-shares = rw shares-all (take_at shares (replicate more 0) h.length size);
-      same_from = from_at;
+      same_shares = rw shares_all (take_at shares (replicate more 0) h.length size);
+      same_from = from_at_lem;
     }
 
 -- a letter
 abbrev pub Reads : Head → List ℕ → Type 0
 Reads h shares = ReadsAs 81 0 0 h shares
 
-pub written-reads : (h : Head) (shares : List ℕ) → lawfulHead h ≡ true → length shares ≡ h.length → Below 257 shares → Reads h shares
-written-reads h shares lawful size below =
-    written-reads-as 81 0 h shares 0 (omega arith) (omega arith) (omega arith) lawful size below
+pub written_reads : (h : Head) (shares : List ℕ) → lawful_head h ≡ true → length shares ≡ h.length → Below 257 shares → Reads h shares
+written_reads h shares lawful size below =
+    written_reads_as 81 0 h shares 0 (omega arith) (omega arith) (omega arith) lawful size below

@@ -2,19 +2,19 @@
 -- Assumes nothing.
 use Rattle.std.specs.Prelude.{ℕ, ◌≡◌, refl, List, replicate}
 use Rattle.lists.specs.Total.{total}
-use Rattle.block.specs.Check.{allAtMost, checked, blockNumber}
+use Rattle.block.specs.Check.{all_at_most, checked, block_number}
 use Rattle.block.specs.Words.{words_of}
-use Rattle.header.specs.Head.{headOf}
-use Rattle.header.specs.Rules.{markRight}
+use Rattle.header.specs.Head.{head_of}
+use Rattle.header.specs.Rules.{mark_right}
 use Rattle.format.specs.declared.reader.Reading.TheVariants.{Bad}
-use Rattle.format.specs.Letter.{blocksFor}
-use Rattle.format.specs.Reading.{read_of, readAs, judgedFrom, firstFault, letterBlockNumber}
+use Rattle.format.specs.Letter.{blocks_for}
+use Rattle.format.specs.Reading.{read_of, read_as, judged_from, first_fault, letter_block_number}
 
 -- "A slot of zeros"
-abbrev pub zeroSlot : List ℕ
-zeroSlot = replicate 2048 0
+abbrev pub zero_slot : List ℕ
+zero_slot = replicate 2048 0
 
 -- "A slot of zeros gives 11 at place 0."
-pub zeros-read : read_of zeroSlot ≡ Bad 11 0
-unfolding readAs judgedFrom firstFault letterBlockNumber markRight blocksFor headOf blockNumber allAtMost checked total words_of
-zeros-read = refl
+pub zeros_read : read_of zero_slot ≡ Bad 11 0
+unfolding read_as judged_from first_fault letter_block_number mark_right blocks_for head_of block_number all_at_most checked total words_of
+zeros_read = refl

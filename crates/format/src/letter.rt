@@ -2,8 +2,8 @@
 ghost use Rattle.std.specs.Prelude.{◌≡◌, true, ◌++◌, ◌+◌, ◌-◌, ◌<◌, ◌≤◌, min, length, replicate};
 ghost use Rattle.block.specs.Words.{bytes_of};
 ghost use Rattle.block.specs.Check.{sealed};
-ghost use Rattle.header.specs.Head.{lawfulHead, headWords};
-ghost use Rattle.format.specs.Letter.{blocksFor, slotBytes, letterBytes};
+ghost use Rattle.header.specs.Head.{lawful_head, head_words};
+ghost use Rattle.format.specs.Letter.{blocks_for, slot_bytes, letter_bytes};
 
 use block::check::seal;
 use block::words::put_words;
@@ -13,7 +13,7 @@ use header::head::Head;
 // How many blocks hold l share words.
 pub fn blocks(l: usize) -> usize
     requires { l ≤ 952 }
-    ensures { result ≡ blocksFor l }
+    ensures { result ≡ blocks_for l }
 {
     (l + 237) / 238
 }
@@ -38,8 +38,8 @@ fn clear(slot: &mut [u8])
 
 // Writes block p, of its own share words.
 fn write_block(mark: u16, from: u16, h: Head, p: usize, shares: &[u16], block: &mut [u8])
-    requires { (lawfulHead h ≡ true) × (p < 4) × (length shares.now ≤ 238) × (length block.old ≡ 512) }
-    ensures { block.new ≡ bytes_of (sealed (headWords mark from h p ++ (shares.now ++ replicate (238 - length shares.now) 0))) }
+    requires { (lawful_head h ≡ true) × (p < 4) × (length shares.now ≤ 238) × (length block.old ≡ 512) }
+    ensures { block.new ≡ bytes_of (sealed (head_words mark from h p ++ (shares.now ++ replicate (238 - length shares.now) 0))) }
 {
     let header = head::words(mark, from, h, p);
     let zeros = [0u16; 238];
@@ -52,8 +52,8 @@ fn write_block(mark: u16, from: u16, h: Head, p: usize, shares: &[u16], block: &
 
 // Writes a slot, with a mark in word 0 of each block and a number in word 14.
 pub fn write_as(mark: u16, from: u16, h: Head, shares: &[u16], slot: &mut [u8])
-    requires { (lawfulHead h ≡ true) × (length shares.now ≡ h.length) × (length slot.old ≡ 2048) }
-    ensures { slot.new ≡ slotBytes mark from h shares.now }
+    requires { (lawful_head h ≡ true) × (length shares.now ≡ h.length) × (length slot.old ≡ 2048) }
+    ensures { slot.new ≡ slot_bytes mark from h shares.now }
 {
     clear(slot);
     let l = shares.len();
@@ -77,8 +77,8 @@ pub fn write_as(mark: u16, from: u16, h: Head, shares: &[u16], slot: &mut [u8])
 
 // Writes a letter.
 pub fn write(h: Head, shares: &[u16], slot: &mut [u8])
-    requires { (lawfulHead h ≡ true) × (length shares.now ≡ h.length) × (length slot.old ≡ 2048) }
-    ensures { slot.new ≡ letterBytes h shares.now }
+    requires { (lawful_head h ≡ true) × (length shares.now ≡ h.length) × (length slot.old ≡ 2048) }
+    ensures { slot.new ≡ letter_bytes h shares.now }
 {
     write_as(81, 0, h, shares, slot);
 }

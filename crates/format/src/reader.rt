@@ -2,8 +2,8 @@
 ghost use Rattle.std.specs.Prelude.{◌≡◌, true, cond, ◌*◌, ◌<◌, ◌≤◌, length, take, drop};
 ghost use Rattle.block.specs.Words.{words_of};
 ghost use Rattle.header.specs.FirstOf.{first_of};
-ghost use Rattle.header.specs.Head.{lawfulHead};
-ghost use Rattle.format.specs.Reading.{letterBlockNumber, shares_of, endsInZeros, judgedFrom, readAs, read_of};
+ghost use Rattle.header.specs.Head.{lawful_head};
+ghost use Rattle.format.specs.Reading.{letter_block_number, shares_of, ends_in_zeros, judged_from, read_as, read_of};
 
 use crate::letter::{blocks, end_of};
 use block::bounds::all_at_most;
@@ -48,7 +48,7 @@ fn first_of(one: u32, two: u32, three: u32) -> u32
 // What is wrong with a block at its place in the letter that block 0 begins: 9, 10, 11, 12, or 0 where nothing is.
 fn block_number(mark: u16, most: u16, first: Head, place: usize, block: &[u8]) -> u32
     requires { (length block.now ≡ 512) × (place < 4) }
-    ensures { result ≡ letterBlockNumber mark most first place (words_of block.now) }
+    ensures { result ≡ letter_block_number mark most first place (words_of block.now) }
 {
     let checked = check::number(block);
     let marked = unless(mark_right(mark, block), 11);
@@ -59,7 +59,7 @@ fn block_number(mark: u16, most: u16, first: Head, place: usize, block: &[u8]) -
 // Whether the share words past l, and the bytes past the last block, are zero.
 fn ends_in_zeros(slot: &[u8], l: usize) -> bool
     requires { (length slot.now ≡ 2048) × (1 ≤ l) × (l ≤ 952) }
-    ensures { result ≡ endsInZeros slot.now l }
+    ensures { result ≡ ends_in_zeros slot.now l }
 {
     let count = blocks(l);
     let last = count - 1;
@@ -69,8 +69,8 @@ fn ends_in_zeros(slot: &[u8], l: usize) -> bool
 
 // What a slot reads as whose block 0 is good and says `first`.
 fn read_on(mark: u16, most: u16, slot: &[u8], first: Head) -> Reading
-    requires { (length slot.now ≡ 2048) × (lawfulHead first ≡ true) }
-    ensures { result ≡ judgedFrom mark most slot.now first 1 }
+    requires { (length slot.now ≡ 2048) × (lawful_head first ≡ true) }
+    ensures { result ≡ judged_from mark most slot.now first 1 }
 {
     let count = blocks(first.length);
     let mut p = 1;
@@ -93,7 +93,7 @@ fn read_on(mark: u16, most: u16, slot: &[u8], first: Head) -> Reading
 
 // What a slot reads as, by the mark that it should have and the most that its words 14 may be.
 pub fn read_as(mark: u16, most: u16, slot: &[u8]) -> Reading
-    ensures { result ≡ readAs mark most slot.now }
+    ensures { result ≡ read_as mark most slot.now }
 {
     if slot.len() != 2048 {
         return Reading::Bad {

@@ -7,11 +7,11 @@ use Rattle.std.proofs.Math.Dec.{eqb-suc-zero}
 abbrev pub first_of : ℕ → ℕ → ℕ
 first_of one two = cond (eqb one 0) two one
 
-pub first-right : (one two : ℕ) → one ≡ 0 → first_of one two ≡ two
-first-right one two e = rw (eq-eqb one 0 e)
+pub first_right : (one two : ℕ) → one ≡ 0 → first_of one two ≡ two
+first_right one two e = rw (eq-eqb one 0 e)
 
-pub first-wrong : (one two : ℕ) → (one ≡ 0 → ⊥) → first_of one two ≡ one
-first-wrong one two other = rw (ne_eqb one 0 other)
+pub first_wrong : (one two : ℕ) → (one ≡ 0 → ⊥) → first_of one two ≡ one
+first_wrong one two other = rw (ne_eqb one 0 other)
 
 pub both_right : (one two : ℕ) → first_of one two ≡ 0 → (one ≡ 0) × (two ≡ 0)
 both_right zero two e = (refl, e)

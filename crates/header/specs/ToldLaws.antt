@@ -3,30 +3,30 @@
 use Rattle.std.specs.Prelude.{◌≤◌, ◌≡◌, true}
 use Rattle.std.proofs.Common.{ap}
 use Rattle.header.specs.declared.told.Told.{Told}
-use Rattle.header.specs.OrderLaws.{OrderFacts, lawful-order-facts, facts-lawful-order, same-order-equal, equal-same-order}
+use Rattle.header.specs.OrderLaws.{OrderFacts, lawful_order_facts, facts_lawful_order, same_order_equal, equal_same_order}
 use Rattle.header.specs.Passing.{passed, passes}
-use Rattle.header.specs.Told.{lawfulTold, sameTold}
+use Rattle.header.specs.Told.{lawful_told, same_told}
 
 pub record ToldFacts (told : Told) : Type 0 where
-  pub of-order : OrderFacts told.order
-  pub key-most : told.key ≤ 255
+  pub of_order : OrderFacts told.order
+  pub key_most : told.key ≤ 255
 
-pub lawful-told-facts : (told : Told) → lawfulTold told ≡ true → ToldFacts told
-unfolding lawfulTold
-lawful-told-facts told e = search (passed, lawful-order-facts)
+pub lawful_told_facts : (told : Told) → lawful_told told ≡ true → ToldFacts told
+unfolding lawful_told
+lawful_told_facts told e = search (passed, lawful_order_facts)
 
-pub facts-lawful-told : (told : Told) → ToldFacts told → lawfulTold told ≡ true
-unfolding lawfulTold
-facts-lawful-told told h = simp (passes, facts-lawful-order told.order h.of-order, h.key-most)
+pub facts_lawful_told : (told : Told) → ToldFacts told → lawful_told told ≡ true
+unfolding lawful_told
+facts_lawful_told told h = simp (passes, facts_lawful_order told.order h.of_order, h.key_most)
 
-pub same-told-equal : (a b : Told) → sameTold a b ≡ true → a ≡ b
-unfolding sameTold
-same-told-equal a b e =
-    let order : a.order ≡ b.order = search (passed, same-order-equal) in
+pub same_told_equal : (a b : Told) → same_told a b ≡ true → a ≡ b
+unfolding same_told
+same_told_equal a b e =
+    let order : a.order ≡ b.order = search (passed, same_order_equal) in
     let key : a.key ≡ b.key = search passed in
     λ i. record { order = order i; key = key i }
 
-pub equal-same-told : (a b : Told) → a ≡ b → sameTold a b ≡ true
-unfolding sameTold
-equal-same-told a b e =
-    simp (passes, equal-same-order a.order b.order (ap (λ (told : Told). told.order) e), ap (λ (told : Told). told.key) e)
+pub equal_same_told : (a b : Told) → a ≡ b → same_told a b ≡ true
+unfolding same_told
+equal_same_told a b e =
+    simp (passes, equal_same_order a.order b.order (ap (λ (told : Told). told.order) e), ap (λ (told : Told). told.key) e)

@@ -1,7 +1,7 @@
 // The head of a letter: what the header words of each of its blocks say.
 ghost use Rattle.std.specs.Prelude.{◌≡◌, true, ◌<◌, length, get_or};
 ghost use Rattle.block.specs.Words.{words_of};
-ghost use Rattle.header.specs.Head.{lawfulHead, sameHead, headWords, order_of, toldOf, stampOf, length_of, headOf, low_byte};
+ghost use Rattle.header.specs.Head.{lawful_head, same_head, head_words, order_of, told_of, stamp_of, length_of, head_of, low_byte};
 
 use crate::order::Order;
 use crate::terms::{lawful_length, lawful_stamp};
@@ -18,7 +18,7 @@ pub struct Head {
 }
 
 pub fn lawful(h: Head) -> bool
-    ensures { result ≡ lawfulHead h }
+    ensures { result ≡ lawful_head h }
 {
     told::lawful(h.told)
         && (order::has_keeper(h.told.order, h.keeper)
@@ -26,7 +26,7 @@ pub fn lawful(h: Head) -> bool
 }
 
 pub fn same(a: Head, b: Head) -> bool
-    ensures { result ≡ sameHead a b }
+    ensures { result ≡ same_head a b }
 {
     told::same(a.told, b.told)
         && (a.keeper == b.keeper && (a.stamp == b.stamp && a.length == b.length))
@@ -34,8 +34,8 @@ pub fn same(a: Head, b: Head) -> bool
 
 // Words 0..15 of block p, with a mark in word 0 and a number in word 14.
 pub fn words(mark: u16, from: u16, h: Head, p: usize) -> [u16; 16]
-    requires { (lawfulHead h ≡ true) × (p < 4) }
-    ensures { result ≡ headWords mark from h p }
+    requires { (lawful_head h ≡ true) × (p < 4) }
+    ensures { result ≡ head_words mark from h p }
 {
     let told = h.told;
     let o = told.order;
@@ -90,7 +90,7 @@ fn order_of(block: &[u8]) -> Order
 
 fn told_of(block: &[u8]) -> Told
     requires { length block.now ≡ 512 }
-    ensures { result ≡ toldOf (words_of block.now) }
+    ensures { result ≡ told_of (words_of block.now) }
 {
     let order = order_of(block);
     Told {
@@ -101,7 +101,7 @@ fn told_of(block: &[u8]) -> Told
 
 fn stamp_of(block: &[u8]) -> u32
     requires { length block.now ≡ 512 }
-    ensures { result ≡ stampOf (words_of block.now) }
+    ensures { result ≡ stamp_of (words_of block.now) }
 {
     low(block, 6) * 16777216 + low(block, 7) * 65536 + low(block, 8) * 256 + low(block, 9)
 }
@@ -116,7 +116,7 @@ fn length_of(block: &[u8]) -> usize
 // What the header words of a block say.
 pub fn head_of(block: &[u8]) -> Head
     requires { length block.now ≡ 512 }
-    ensures { result ≡ headOf (words_of block.now) }
+    ensures { result ≡ head_of (words_of block.now) }
 {
     let told = told_of(block);
     Head {

@@ -1,6 +1,6 @@
 // An order: how many letters tell nothing of the secret, how many keepers may lie, how many keepers there are.
 ghost use Rattle.std.specs.Prelude.{◌≡◌};
-ghost use Rattle.header.specs.Order.{lawfulOrder, sameOrder, lawfulKeeper};
+ghost use Rattle.header.specs.Order.{lawful_order, same_order, lawful_keeper};
 
 #[derive(Drop)]
 pub struct Order {
@@ -10,19 +10,19 @@ pub struct Order {
 }
 
 pub fn lawful(o: Order) -> bool
-    ensures { result ≡ lawfulOrder o }
+    ensures { result ≡ lawful_order o }
 {
     1 <= o.t && (o.t <= 7 && (o.f <= o.t && (o.t + 4 * o.f + 1 <= o.n && o.n <= 16)))
 }
 
 pub fn has_keeper(o: Order, keeper: usize) -> bool
-    ensures { result ≡ lawfulKeeper o keeper }
+    ensures { result ≡ lawful_keeper o keeper }
 {
     1 <= keeper && keeper <= o.n
 }
 
 pub fn same(a: Order, b: Order) -> bool
-    ensures { result ≡ sameOrder a b }
+    ensures { result ≡ same_order a b }
 {
     a.t == b.t && (a.f == b.f && a.n == b.n)
 }

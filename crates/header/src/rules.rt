@@ -1,7 +1,7 @@
 // What a block is held to in its header words: numbers 11 and 12.
 ghost use Rattle.std.specs.Prelude.{◌≡◌, ◌<◌, length};
 ghost use Rattle.block.specs.Words.{words_of};
-ghost use Rattle.header.specs.Rules.{markRight, placeRight, headerRight};
+ghost use Rattle.header.specs.Rules.{mark_right, place_right, header_right};
 
 use crate::head;
 use crate::head::{Head, head_of};
@@ -11,7 +11,7 @@ use block::words::word_at;
 // Whether words 0 and 1 are a mark and the edition.
 pub fn mark_right(mark: u16, block: &[u8]) -> bool
     requires { length block.now ≡ 512 }
-    ensures { result ≡ markRight mark (words_of block.now) }
+    ensures { result ≡ mark_right mark (words_of block.now) }
 {
     word_at(block, 0) == mark && word_at(block, 1) == 1
 }
@@ -19,14 +19,14 @@ pub fn mark_right(mark: u16, block: &[u8]) -> bool
 // Whether words 12, 14 and 15 are the place, a number of at most `most`, and 0.
 fn place_right(most: u16, block: &[u8], place: usize) -> bool
     requires { (length block.now ≡ 512) × (place < 4) }
-    ensures { result ≡ placeRight most place (words_of block.now) }
+    ensures { result ≡ place_right most place (words_of block.now) }
 {
     word_at(block, 12) == place as u16 && (word_at(block, 14) <= most && word_at(block, 15) == 0)
 }
 
 pub fn header_right(most: u16, first: Head, place: usize, block: &[u8]) -> bool
     requires { (length block.now ≡ 512) × (place < 4) }
-    ensures { result ≡ headerRight most first place (words_of block.now) }
+    ensures { result ≡ header_right most first place (words_of block.now) }
 {
     let here = head_of(block);
     head::lawful(here)

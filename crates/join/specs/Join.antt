@@ -4,12 +4,12 @@ use Rattle.std.specs.Prelude.{ℕ, ◌+◌, ◌*◌, ◌≤◌, ◌<◌, ◌≡�
 use Rattle.lists.specs.Chosen.{chosen}
 use Rattle.lists.specs.Count.{count}
 use Rattle.lists.specs.From.{from}
-use Rattle.lists.specs.KeeperSet.{keeperSet}
+use Rattle.lists.specs.KeeperSet.{keeper_set}
 use Rattle.algebra.specs.Field.{Ops}
-use Rattle.block.specs.Check.{allAtMost}
+use Rattle.block.specs.Check.{all_at_most}
 use Rattle.header.specs.declared.told.Told.{Told}
 use Rattle.header.specs.FirstOf.{first_of}
-use Rattle.header.specs.Terms.{termsNumber}
+use Rattle.header.specs.Terms.{terms_number}
 use Rattle.tray.specs.Tray.{usable, word_of}
 use Rattle.agree.specs.Agreement.{agreeing, needed, reaching, Reaches, constants}
 use Rattle.trials.specs.Sets.{sets}
@@ -17,9 +17,9 @@ use Rattle.trials.specs.Trials.{trials}
 use Rattle.join.specs.declared.Joined.{Joined}
 
 -- the refusals that need no letter: 1, 2, 3 of what is told, the key with the order, then 4 of what is lent
-unfoldable pub joinRefusal : Told → ℕ → ℕ → List ℕ → List ℕ → ℕ
-joinRefusal told stamp l tray room =
-    first_of (termsNumber told stamp l) (cond (eqb (length tray) (2048 * told.order.n) && eqb (length room) l) 0 4)
+unfoldable pub join_refusal : Told → ℕ → ℕ → List ℕ → List ℕ → ℕ
+join_refusal told stamp l tray room =
+    first_of (terms_number told stamp l) (cond (eqb (length tray) (2048 * told.order.n) && eqb (length room) l) 0 4)
 
 -- "The result has the number, m, need, and the keepers that match as a 16-bit set"; "its result gets a count of trials"
 abbrev pub answer : ℕ → ℕ → ℕ → ℕ → ℕ → Joined
@@ -40,15 +40,15 @@ pub data Outcome (O : Ops) (t f n : ℕ) (us : ℕ → Bool) (word : ℕ → ℕ
       → Outcome O t f n us word l room (answer 6 (count us (from 1 n)) (needed t f n us) 0 0) room
   apart : t + f + 1 ≤ count us (from 1 n) → ((ps : List (List ℕ)) → Reaches O t f n us word l ps → ⊥)
       → Outcome O t f n us word l room (answer 7 (count us (from 1 n)) (needed t f n us) 0 (length (hunt t n us))) room
-  wide : (ps : List (List ℕ)) → Reaches O t f n us word l ps → allAtMost 255 (constants ps) ≡ false
-      → Outcome O t f n us word l room (answer 8 (count us (from 1 n)) (needed t f n us) (keeperSet (agreeing O us word l ps) n) (hunted O t f n us word l)) room
-  joined : (ps : List (List ℕ)) → Reaches O t f n us word l ps → allAtMost 255 (constants ps) ≡ true
-      → Outcome O t f n us word l room (answer 0 (count us (from 1 n)) (needed t f n us) (keeperSet (agreeing O us word l ps) n) (hunted O t f n us word l)) (constants ps)
+  wide : (ps : List (List ℕ)) → Reaches O t f n us word l ps → all_at_most 255 (constants ps) ≡ false
+      → Outcome O t f n us word l room (answer 8 (count us (from 1 n)) (needed t f n us) (keeper_set (agreeing O us word l ps) n) (hunted O t f n us word l)) room
+  joined : (ps : List (List ℕ)) → Reaches O t f n us word l ps → all_at_most 255 (constants ps) ≡ true
+      → Outcome O t f n us word l room (answer 0 (count us (from 1 n)) (needed t f n us) (keeper_set (agreeing O us word l ps) n) (hunted O t f n us word l)) (constants ps)
 
 -- the join's promise: a refusal, or the outcome of the usable letters
 pub data JoinDone (O : Ops) (told : Told) (stamp l : ℕ) (tray room : List ℕ) : Joined → List ℕ → Type 0 where
-  refused : (joinRefusal told stamp l tray room ≡ 0 → ⊥)
-      → JoinDone O told stamp l tray room (answer (joinRefusal told stamp l tray room) 0 0 0 0) room
-  judged : {result : Joined} {left : List ℕ} → joinRefusal told stamp l tray room ≡ 0
+  refused : (join_refusal told stamp l tray room ≡ 0 → ⊥)
+      → JoinDone O told stamp l tray room (answer (join_refusal told stamp l tray room) 0 0 0 0) room
+  judged : {result : Joined} {left : List ℕ} → join_refusal told stamp l tray room ≡ 0
       → Outcome O told.order.t told.order.f told.order.n (usable told stamp l tray) (word_of tray l) l room result left
       → JoinDone O told stamp l tray room result left

@@ -1,10 +1,10 @@
 // Words that are bytes.
 ghost use Rattle.std.specs.Prelude.{◌≡◌, true, length};
-ghost use Rattle.block.specs.Check.{allAtMost};
+ghost use Rattle.block.specs.Check.{all_at_most};
 
 // Writes words that are bytes into a room for as many.
 pub fn put_bytes(words: &[u16], room: &mut [u8])
-    requires fact_1 { allAtMost 255 words.now ≡ true }
+    requires fact_1 { all_at_most 255 words.now ≡ true }
     requires fact_2 { length words.now ≡ length room.old }
     ensures { room.new ≡ words.now }
 {

@@ -2,9 +2,9 @@
 ghost use Rattle.std.specs.Prelude.{◌≡◌, ◌≤◌, length};
 ghost use Rattle.lists.specs.KeeperSet.{member};
 ghost use Rattle.field.specs.Modulo.{mod257};
-ghost use Rattle.weigh.specs.Weigh.{rowWord};
+ghost use Rattle.weigh.specs.Weigh.{row_word};
 ghost use Rattle.agree.specs.Rows.{Rows};
-ghost use Rattle.join.specs.Join.{answer, joinRefusal, Outcome, JoinDone};
+ghost use Rattle.join.specs.Join.{answer, join_refusal, Outcome, JoinDone};
 
 use crate::refusal::refusal;
 use crate::secret::reveal;
@@ -45,7 +45,7 @@ fn judge(t: usize, f: usize, usable: u16, rows: &[u16], room: &mut [u8]) -> Join
     requires fact_2 { t ≤ 7 }
     requires fact_3 { f ≤ t }
     requires fact_4 { length room.old ≤ 952 }
-    ensures { Outcome mod257 t f 16 (member usable) (rowWord rows.now) (length room.old) room.old result room.new }
+    ensures { Outcome mod257 t f 16 (member usable) (row_word rows.now) (length room.old) room.old result room.new }
 {
     let m = u16::count_ones(usable);
     let need = need_of(m, t, f);
@@ -73,7 +73,7 @@ pub fn join_over(
     rows: &mut [u16],
     room: &mut [u8],
 ) -> Joined
-    requires fact_1 { joinRefusal told stamp l tray.now room.old ≡ 0 }
+    requires fact_1 { join_refusal told stamp l tray.now room.old ≡ 0 }
     requires fact_2 { Rows rows.old }
     ensures { JoinDone mod257 told stamp l tray.now room.old result room.new × Rows rows.new }
 {

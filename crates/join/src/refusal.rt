@@ -1,6 +1,6 @@
 // What forbids a join before any letter is read.
 ghost use Rattle.std.specs.Prelude.{◌≡◌, ◌&&◌, ◌*◌, ◌≤◌, eqb, length};
-ghost use Rattle.join.specs.Join.{joinRefusal};
+ghost use Rattle.join.specs.Join.{join_refusal};
 
 use header::order::Order;
 use header::terms::terms_number;
@@ -16,7 +16,7 @@ fn lent_right(o: Order, l: usize, tray: &[u8], room: &[u8]) -> bool
 
 // The number of the first thing that forbids it: 1, 2, 3, 4; or 0 where nothing does.
 pub fn refusal(told: Told, stamp: u32, l: usize, tray: &[u8], room: &[u8]) -> u32
-    ensures { result ≡ joinRefusal told stamp l tray.now room.now }
+    ensures { result ≡ join_refusal told stamp l tray.now room.now }
 {
     let number = terms_number(told, stamp, l);
     if number != 0 {

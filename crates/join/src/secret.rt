@@ -2,7 +2,7 @@
 ghost use Rattle.std.specs.Prelude.{◌≡◌, ◌+◌, ◌≤◌, length};
 ghost use Rattle.std.specs.Int.Count.{ones};
 ghost use Rattle.field.specs.Modulo.{mod257};
-ghost use Rattle.weigh.specs.Weigh.{rowWord};
+ghost use Rattle.weigh.specs.Weigh.{row_word};
 ghost use Rattle.agree.specs.Rows.{Rows};
 ghost use Rattle.join.specs.Revealed.{Reveals};
 
@@ -18,7 +18,7 @@ pub fn reveal(t: usize, set: u16, rows: &[u16], row: &mut [u16], room: &mut [u8]
     requires fact_3 { t + 1 ≤ ones set }
     requires fact_4 { length row.old ≤ 952 }
     requires fact_5 { length row.old ≡ length room.old }
-    ensures { Reveals mod257 t 16 set (rowWord rows.now) room.old result room.new }
+    ensures { Reveals mod257 t 16 set (row_word rows.now) room.old result room.new }
 {
     constants_of(t, set, rows, row);
     if within(row, 255) {

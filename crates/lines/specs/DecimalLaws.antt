@@ -9,9 +9,9 @@ one_place : (more n : ℕ) → n < 10 → digits (suc more) n ≡ (48 + n) ∷ [
 unfolding digits
 one_place more n h = rw (lt-ltb n 10 h, digits)
 
-last-place : (more n : ℕ) → 10 ≤ n → digits (suc more) n ≡ digits more (n / 10) ++ ((48 + n % 10) ∷ [])
+last_place : (more n : ℕ) → 10 ≤ n → digits (suc more) n ≡ digits more (n / 10) ++ ((48 + n % 10) ∷ [])
 unfolding digits
-last-place more n h = rw (le-ltb n 10 h, digits)
+last_place more n h = rw (le-ltb n 10 h, digits)
 
 -- more places than it has digits change nothing
 digits_same : (k n : ℕ) → n < 10 ^ suc k → digits (suc (suc k)) n ≡ digits (suc k) n
@@ -28,19 +28,19 @@ by_digits P more n only last = picked (ltb n 10)
     picked true = only
     picked false = last
 
-digits-short : (more k n : ℕ) → n < 10 ^ suc k → length (digits more n) ≤ suc k
+digits_short : (more k n : ℕ) → n < 10 ^ suc k → length (digits more n) ≤ suc k
 unfolding digits
-digits-short zero k n h = omega arith
-digits-short (suc more) zero n h = rw (one_place more n (omega arith)) (omega arith)
-digits-short (suc more) (suc k) n h =
-    by_digits (λ xs. length xs ≤ suc (suc k)) more n (omega arith) (rw length-append (omega (arith, digits-short more k (n / 10) (omega arith))))
+digits_short zero k n h = omega arith
+digits_short (suc more) zero n h = rw (one_place more n (omega arith)) (omega arith)
+digits_short (suc more) (suc k) n h =
+    by_digits (λ xs. length xs ≤ suc (suc k)) more n (omega arith) (rw length-append (omega (arith, digits_short more k (n / 10) (omega arith))))
 
-pub decimal-one : (n : ℕ) → n < 10 → decimal n ≡ (48 + n) ∷ []
-decimal-one n h = one_place 19 n h
+pub decimal_one : (n : ℕ) → n < 10 → decimal n ≡ (48 + n) ∷ []
+decimal_one n h = one_place 19 n h
 
-pub decimal-more : (n : ℕ) → 10 ≤ n → n < 10 ^ 20 → decimal n ≡ decimal (n / 10) ++ ((48 + n % 10) ∷ [])
-decimal-more n h small = rw (last-place 19 n h, digits_same 18 (n / 10) (omega arith))
+pub decimal_more : (n : ℕ) → 10 ≤ n → n < 10 ^ 20 → decimal n ≡ decimal (n / 10) ++ ((48 + n % 10) ∷ [])
+decimal_more n h small = rw (last_place 19 n h, digits_same 18 (n / 10) (omega arith))
 
 -- a number below 10^(k+1) has k+1 digits at most; every number has one
 pub length-decimal : (k n : ℕ) → n < 10 ^ suc k → length (decimal n) ≤ suc k
-length-decimal k n h = digits-short 20 k n h
+length-decimal k n h = digits_short 20 k n h

@@ -7,12 +7,12 @@ use Rattle.lines.specs.declared.line.Standing.{Standing}
 use Rattle.lines.specs.declared.line.Standing.TheVariants.{Absent, Present, Agrees, Differs}
 
 -- three numbers, each after its name
-unfoldable pub threeLine : String → ℕ → String → ℕ → String → ℕ → List ℕ
-threeLine a x b y c z = text a ++ (decimal x ++ (text b ++ (decimal y ++ (text c ++ (decimal z ++ text "\n")))))
+unfoldable pub three_line : String → ℕ → String → ℕ → String → ℕ → List ℕ
+three_line a x b y c z = text a ++ (decimal x ++ (text b ++ (decimal y ++ (text c ++ (decimal z ++ text "\n")))))
 
 -- as "key 0 stamp 7 length 1"
-abbrev pub keyLine : ℕ → ℕ → ℕ → List ℕ
-keyLine key stamp l = threeLine "key " key " stamp " stamp " length " l
+abbrev pub key_line : ℕ → ℕ → ℕ → List ℕ
+key_line key stamp l = three_line "key " key " stamp " stamp " length " l
 
 -- the word for how a keeper stands
 unfoldable pub word_of : Standing → String
@@ -22,13 +22,13 @@ word_of Agrees = "agrees"
 word_of Differs = "differs"
 
 -- as "keeper 1 agrees"
-unfoldable pub keeperLine : ℕ → String → List ℕ
-keeperLine x word = text "keeper " ++ (decimal x ++ (text " " ++ (text word ++ text "\n")))
+unfoldable pub keeper_line : ℕ → String → List ℕ
+keeper_line x word = text "keeper " ++ (decimal x ++ (text " " ++ (text word ++ text "\n")))
 
 -- as "usable 5 need 4 agree 4"
-abbrev pub countLine : ℕ → ℕ → ℕ → List ℕ
-countLine m need agree = threeLine "usable " m " need " need " agree " agree
+abbrev pub count_line : ℕ → ℕ → ℕ → List ℕ
+count_line m need agree = three_line "usable " m " need " need " agree " agree
 
 -- as "answer 0"
-unfoldable pub answerLine : ℕ → List ℕ
-answerLine number = text "answer " ++ (decimal number ++ text "\n")
+unfoldable pub answer_line : ℕ → List ℕ
+answer_line number = text "answer " ++ (decimal number ++ text "\n")

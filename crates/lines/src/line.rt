@@ -1,6 +1,6 @@
 // Each line of the report, written from a place on. A call answers the place after; no line is longer than 64 bytes.
 ghost use Rattle.std.specs.Prelude.{◌+◌, ◌≤◌, ◌++◌, length};
-ghost use Rattle.lines.specs.Lines.{keyLine, word_of, keeperLine, countLine, answerLine};
+ghost use Rattle.lines.specs.Lines.{key_line, word_of, keeper_line, count_line, answer_line};
 ghost use Rattle.lines.specs.Text.{decimal, text};
 ghost use Rattle.lines.specs.Written.{Written};
 
@@ -60,14 +60,14 @@ fn put_three(
 
 pub fn put_key_line(out: &mut [u8], at: usize, key: u32, stamp: u32, l: u32) -> usize
     requires { at + 64 ≤ length out.old }
-    ensures { Written out.old at (keyLine key stamp l) out.new result }
+    ensures { Written out.old at (key_line key stamp l) out.new result }
 {
     put_three(out, at, b"key ", key, b" stamp ", stamp, b" length ", l)
 }
 
 pub fn put_keeper_line(out: &mut [u8], at: usize, x: u32, s: Standing) -> usize
     requires { at + 64 ≤ length out.old }
-    ensures { Written out.old at (keeperLine x (word_of s)) out.new result }
+    ensures { Written out.old at (keeper_line x (word_of s)) out.new result }
 {
     let named = put_named(out, at, b"keeper ", x);
     let word = put(out, named, b" ");
@@ -77,14 +77,14 @@ pub fn put_keeper_line(out: &mut [u8], at: usize, x: u32, s: Standing) -> usize
 
 pub fn put_count_line(out: &mut [u8], at: usize, m: u32, need: u32, agree: u32) -> usize
     requires { at + 64 ≤ length out.old }
-    ensures { Written out.old at (countLine m need agree) out.new result }
+    ensures { Written out.old at (count_line m need agree) out.new result }
 {
     put_three(out, at, b"usable ", m, b" need ", need, b" agree ", agree)
 }
 
 pub fn put_answer_line(out: &mut [u8], at: usize, number: u32) -> usize
     requires { at + 64 ≤ length out.old }
-    ensures { Written out.old at (answerLine number) out.new result }
+    ensures { Written out.old at (answer_line number) out.new result }
 {
     let end = put_named(out, at, b"answer ", number);
     put(out, end, b"\n")

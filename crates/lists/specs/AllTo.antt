@@ -2,6 +2,6 @@
 -- Assumes nothing.
 use Rattle.std.specs.Prelude.{ℕ, zero, suc, Bool, true, ◌&&◌}
 
-unfoldable pub allTo : (ℕ → Bool) → ℕ → Bool
-allTo test zero = true
-allTo test (suc k) = allTo test k && test k
+unfoldable pub all_to : (ℕ → Bool) → ℕ → Bool
+all_to test zero = true
+all_to test (suc k) = all_to test k && test k

@@ -7,46 +7,46 @@ use Rattle.std.proofs.Common.{ap₂, eq-or-lt_of_le, le_of_suc-le-suc, not-suc-l
 use Rattle.std.proofs.Math.Bool.{and-eq-true_iff, and-false}
 use Rattle.std.proofs.Math.Logic.{⊎_elim}
 use Rattle.std.proofs.Math.Numerals.{add-one}
-use Rattle.lists.specs.AllTo.{allTo}
+use Rattle.lists.specs.AllTo.{all_to}
 
 module _ (test : ℕ → Bool) where
-  pub all-to-holds : (k : ℕ) → ((i : ℕ) → i < k → test i ≡ true) → allTo test k ≡ true
-  unfolding allTo
-  all-to-holds zero h = refl
-  all-to-holds (suc k) h = (and-eq-true_iff (allTo test k) (test k)).1 (all-to-holds k (λ i l. h i (omega arith)), h k (omega arith))
+  pub all_to_holds : (k : ℕ) → ((i : ℕ) → i < k → test i ≡ true) → all_to test k ≡ true
+  unfolding all_to
+  all_to_holds zero h = refl
+  all_to_holds (suc k) h = (and-eq-true_iff (all_to test k) (test k)).1 (all_to_holds k (λ i l. h i (omega arith)), h k (omega arith))
 
-  pub all-to-at : (k : ℕ) → allTo test k ≡ true → (i : ℕ) → i < k → test i ≡ true
-  unfolding allTo
-  all-to-at zero e i l = absurd (not-suc-le-zero l)
-  all-to-at (suc k) e i l =
-      let p = (and-eq-true_iff (allTo test k) (test k)).0 e in
-      ⊎_elim (λ s. subst⁻¹ (λ (j : ℕ). test j ≡ true) s p.1) (λ g. all-to-at k p.0 i g) (eq-or-lt_of_le (le_of_suc-le-suc l))
+  pub all_to-at : (k : ℕ) → all_to test k ≡ true → (i : ℕ) → i < k → test i ≡ true
+  unfolding all_to
+  all_to-at zero e i l = absurd (not-suc-le-zero l)
+  all_to-at (suc k) e i l =
+      let p = (and-eq-true_iff (all_to test k) (test k)).0 e in
+      ⊎_elim (λ s. subst⁻¹ (λ (j : ℕ). test j ≡ true) s p.1) (λ g. all_to-at k p.0 i g) (eq-or-lt_of_le (le_of_suc-le-suc l))
 
-  pub all-to-stops : (k i : ℕ) → i < k → test i ≡ false → allTo test k ≡ false
-  unfolding allTo
-  all-to-stops zero i l e = absurd (not-suc-le-zero l)
-  all-to-stops (suc k) i l e =
-      ⊎_elim (λ s. rw (rw s at e) (and-false (allTo test k))) (λ g. rw (all-to-stops k i g e)) (eq-or-lt_of_le (le_of_suc-le-suc l))
+  pub all_to_stops : (k i : ℕ) → i < k → test i ≡ false → all_to test k ≡ false
+  unfolding all_to
+  all_to_stops zero i l e = absurd (not-suc-le-zero l)
+  all_to_stops (suc k) i l e =
+      ⊎_elim (λ s. rw (rw s at e) (and-false (all_to test k))) (λ g. rw (all_to_stops k i g e)) (eq-or-lt_of_le (le_of_suc-le-suc l))
 
   -- of k numbers, the test has passed at those before i
   pub record PassedTo (k i : ℕ) : Type 0 where
     pub reached : i ≤ k
-    pub so_far : allTo test i ≡ true
+    pub so_far : all_to test i ≡ true
 
   module _ {k : ℕ} where
     pub passed_none : PassedTo k 0
-    unfolding allTo
+    unfolding all_to
     passed_none = record { reached = omega arith; so_far = refl }
 
-    pub passed-next : {i : ℕ} → PassedTo k i → i < k → test i ≡ true → PassedTo k (i + 1)
-    unfolding allTo
-    passed-next {i} before l e =
-        record { reached = omega arith; so_far = rw add-one ((and-eq-true_iff (allTo test i) (test i)).1 (before.so_far, e)) }
+    pub passed_next : {i : ℕ} → PassedTo k i → i < k → test i ≡ true → PassedTo k (i + 1)
+    unfolding all_to
+    passed_next {i} before l e =
+        record { reached = omega arith; so_far = rw add-one ((and-eq-true_iff (all_to test i) (test i)).1 (before.so_far, e)) }
 
-    pub passed-all : {i : ℕ} → PassedTo k i → k ≤ i → allTo test k ≡ true
-    passed-all {i} before l = let all : k ≡ i = omega arith in rw all before.so_far
+    pub passed_all : {i : ℕ} → PassedTo k i → k ≤ i → all_to test k ≡ true
+    passed_all {i} before l = let all : k ≡ i = omega arith in rw all before.so_far
 
-pub all-to-same : (f g : ℕ → Bool) (k : ℕ) → ((i : ℕ) → i < k → f i ≡ g i) → allTo f k ≡ allTo g k
-unfolding allTo
-all-to-same f g zero h = refl
-all-to-same f g (suc k) h = ap₂ ◌&&◌ (all-to-same f g k (λ i l. h i (omega arith))) (h k (omega arith))
+pub all_to_same : (f g : ℕ → Bool) (k : ℕ) → ((i : ℕ) → i < k → f i ≡ g i) → all_to f k ≡ all_to g k
+unfolding all_to
+all_to_same f g zero h = refl
+all_to_same f g (suc k) h = ap₂ ◌&&◌ (all_to_same f g k (λ i l. h i (omega arith))) (h k (omega arith))

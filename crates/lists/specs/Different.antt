@@ -7,7 +7,7 @@ abbrev pub Different : List ℕ → Type 0
 Different [] = Unit {0}
 Different (x ∷ xs) = (In x xs → ⊥) × Different xs
 
-pub different-take : (n : ℕ) (xs : List ℕ) → Different xs → Different (take n xs)
-different-take zero xs d = tt
-different-take (suc n) [] d = tt
-different-take (suc n) (x ∷ xs) d = ((λ m. d.0 (in_take n x xs m)), different-take n xs d.1)
+pub different_take : (n : ℕ) (xs : List ℕ) → Different xs → Different (take n xs)
+different_take zero xs d = tt
+different_take (suc n) [] d = tt
+different_take (suc n) (x ∷ xs) d = ((λ m. d.0 (in_take n x xs m)), different_take n xs d.1)

@@ -4,7 +4,7 @@ use Rattle.std.specs.Prelude.{ℕ, suc, ◌+◌, ◌<◌, ◌≤◌, ◌≡◌, 
 use Rattle.std.proofs.Math.Path.{refl}
 use Rattle.std.proofs.Common.{sym, ap, ◌∙◌, append-nil, arith, length-set, drop_of_length-le, drop-cons}
 use Rattle.std.proofs.lemmas.List.{get_or_at}
-use Rattle.lists.specs.Listed.{listed, length-listed, listed-is, set-listed}
+use Rattle.lists.specs.Listed.{listed, length-listed, listed_is, set-listed}
 
 -- the first i numbers are what a rule gives, the others as they were
 pub record Filling (f : ℕ → ℕ) (old : List ℕ) (i : ℕ) (row : List ℕ) : Type 0 where
@@ -13,12 +13,12 @@ pub record Filling (f : ℕ → ℕ) (old : List ℕ) (i : ℕ) (row : List ℕ)
   pub filled : row ≡ listed f i ++ drop i old
 
 module _ {f : ℕ → ℕ} {old : List ℕ} where
-  pub filling-none : Filling f old 0 old
+  pub filling_none : Filling f old 0 old
   unfolding listed
-  filling-none = record { within = omega arith; size = refl; filled = refl }
+  filling_none = record { within = omega arith; size = refl; filled = refl }
 
-  pub filling-more : {i : ℕ} {row : List ℕ} {v : ℕ} → Filling f old i row → i < length row → v ≡ f i → Filling f old (i + 1) (set row i v)
-  filling-more {i} {row} {v} h l e =
+  pub filling_more : {i : ℕ} {row : List ℕ} {v : ℕ} → Filling f old i row → i < length row → v ≡ f i → Filling f old (i + 1) (set row i v)
+  filling_more {i} {row} {v} h l e =
       record {
         within = omega arith;
         size = rw length-set h.size;
@@ -26,14 +26,14 @@ module _ {f : ℕ → ℕ} {old : List ℕ} where
       }
 
   -- what has yet to be filled
-  pub filling-ahead : {i : ℕ} {row : List ℕ} → Filling f old i row → i < length row → get_or row i 0 ≡ get_or old i 0
-  filling-ahead {i} {row} h l =
+  pub filling_ahead : {i : ℕ} {row : List ℕ} → Filling f old i row → i < length row → get_or row i 0 ≡ get_or old i 0
+  filling_ahead {i} {row} h l =
       rw (h.filled, drop-cons old i 0 (omega arith)) (get_or_at (listed f i) (get_or old i 0) (drop (suc i) old) 0 i (length-listed f i))
 
-  pub filling-done : {i : ℕ} {row : List ℕ} → Filling f old i row → length row ≤ i → row ≡ listed f (length old)
-  filling-done {i} {row} h l =
+  pub filling_done : {i : ℕ} {row : List ℕ} → Filling f old i row → length row ≤ i → row ≡ listed f (length old)
+  filling_done {i} {row} h l =
       let all : i ≡ length old = omega arith in
       h.filled ∙ rw (drop_of_length-le old {i = i} (omega arith), append-nil, all)
 
-pub filling-copied : {xs old row : List ℕ} {i : ℕ} → Filling (λ i. get_or xs i 0) old i row → length old ≡ length xs → length row ≤ i → row ≡ xs
-filling-copied {xs} {old} h size l = filling-done h l ∙ ap (listed (λ i. get_or xs i 0)) size ∙ sym (listed-is _ (length xs) xs refl (λ i k. refl))
+pub filling_copied : {xs old row : List ℕ} {i : ℕ} → Filling (λ i. get_or xs i 0) old i row → length old ≡ length xs → length row ≤ i → row ≡ xs
+filling_copied {xs} {old} h size l = filling_done h l ∙ ap (listed (λ i. get_or xs i 0)) size ∙ sym (listed_is _ (length xs) xs refl (λ i k. refl))

@@ -6,7 +6,7 @@ use Rattle.lists.specs.Member.{In}
 
 module _ {A : Type 0} (made : (ℕ → Bool) → List ℕ → A) (step : ℕ → Bool → A → A) (none : (f g : ℕ → Bool) → made f [] ≡ made g [])
     (more : (f : ℕ → Bool) (x : ℕ) (xs : List ℕ) → made f (x ∷ xs) ≡ step x (f x) (made f xs)) where
-  pub folded-same : (f g : ℕ → Bool) (xs : List ℕ) → ((x : ℕ) → In x xs → f x ≡ g x) → made f xs ≡ made g xs
-  folded-same f g [] h = none f g
-  folded-same f g (x ∷ xs) h =
-      more f x xs ∙ (ap₂ (step x) (h x (inl refl)) (folded-same f g xs (λ y m. h y (inr m))) ∙ sym (more g x xs))
+  pub folded_same : (f g : ℕ → Bool) (xs : List ℕ) → ((x : ℕ) → In x xs → f x ≡ g x) → made f xs ≡ made g xs
+  folded_same f g [] h = none f g
+  folded_same f g (x ∷ xs) h =
+      more f x xs ∙ (ap₂ (step x) (h x (inl refl)) (folded_same f g xs (λ y m. h y (inr m))) ∙ sym (more g x xs))

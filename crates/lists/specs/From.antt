@@ -4,7 +4,7 @@ use Rattle.std.specs.Prelude.{ℕ, zero, suc, ◌+◌, ◌≤◌, ◌<◌, ◌�
 use Rattle.std.proofs.Common.{ap, sym, ◌∙◌, inl, inr, ⊎_elim, zero-add, add-zero, suc-add, eq-or-lt_of_le, arith}
 use Rattle.lists.specs.Below.{Below}
 use Rattle.lists.specs.Different.{Different}
-use Rattle.lists.specs.Member.{In, in-getD}
+use Rattle.lists.specs.Member.{In, in_get_d}
 
 unfoldable pub from : ℕ → ℕ → List ℕ
 from a zero = []
@@ -37,15 +37,15 @@ from_in a zero x m = absurd m
 from_in a (suc k) x (inl e) = omega arith
 from_in a (suc k) x (inr m) = let h = from_in (suc a) k x m in omega arith
 
-pub in-from : (a k x : ℕ) → a ≤ x → x < a + k → In x (from a k)
+pub in_from : (a k x : ℕ) → a ≤ x → x < a + k → In x (from a k)
 unfolding from
-in-from a zero x l h = omega arith
-in-from a (suc k) x l h = ⊎_elim (λ e. inl (sym e)) (λ g. inr (in-from (suc a) k x g (omega arith))) (eq-or-lt_of_le l)
+in_from a zero x l h = omega arith
+in_from a (suc k) x l h = ⊎_elim (λ e. inl (sym e)) (λ g. inr (in_from (suc a) k x g (omega arith))) (eq-or-lt_of_le l)
 
-pub different-from : (a k : ℕ) → Different (from a k)
+pub different_from : (a k : ℕ) → Different (from a k)
 unfolding from
-different-from a zero = tt
-different-from a (suc k) = ((λ m. let h = from_in (suc a) k a m in omega arith), different-from (suc a) k)
+different_from a zero = tt
+different_from a (suc k) = ((λ m. let h = from_in (suc a) k a m in omega arith), different_from (suc a) k)
 
-pub below-from : (q a k : ℕ) → a + k ≤ q → Below q (from a k)
-below-from q a k l i h = let e = from_in a k (get_or (from a k) i 0) (in-getD (from a k) i h) in omega arith
+pub below_from : (q a k : ℕ) → a + k ≤ q → Below q (from a k)
+below_from q a k l i h = let e = from_in a k (get_or (from a k) i 0) (in_get_d (from a k) i h) in omega arith

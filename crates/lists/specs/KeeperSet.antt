@@ -4,9 +4,9 @@ use Rattle.std.specs.Prelude.{ℕ, zero, suc, ◌+◌, ◌-◌, ◌*◌, ◌/◌
 use Rattle.lists.specs.Count.{bit}
 
 -- "a 16-bit set, keeper x being bit x-1": the keepers of 1..n that pass a test
-unfoldable pub keeperSet : (ℕ → Bool) → ℕ → ℕ
-keeperSet test zero = 0
-keeperSet test (suc k) = bit (test (suc k)) * 2 ^ k + keeperSet test k
+unfoldable pub keeper_set : (ℕ → Bool) → ℕ → ℕ
+keeper_set test zero = 0
+keeper_set test (suc k) = bit (test (suc k)) * 2 ^ k + keeper_set test k
 
 -- keeper x is in a set: "bit x-1" is 1
 abbrev pub member : ℕ → ℕ → Bool

@@ -9,17 +9,17 @@ use lib.Count.{ones, ones_cat}
 use Rattle.std.proofs.Math.Pow.{high, split}
 use Rattle.lists.specs.Count.{bit, count}
 use Rattle.lists.specs.From.{from}
-use Rattle.lists.specs.KeeperSet.{keeperSet, member}
+use Rattle.lists.specs.KeeperSet.{keeper_set, member}
 use Rattle.lists.specs.Rising.{count-suc}
 
-bit-add-lt : (b : Bool) (p r : ℕ) → r < p → bit b * p + r < 2 * p
-bit-add-lt true p r h = omega arith
-bit-add-lt false p r h = omega arith
+bit-add_lt : (b : Bool) (p r : ℕ) → r < p → bit b * p + r < 2 * p
+bit-add_lt true p r h = omega arith
+bit-add_lt false p r h = omega arith
 
-pub keeper-set-lt : (test : ℕ → Bool) (n : ℕ) → keeperSet test n < 2 ^ n
-unfolding keeperSet
-keeper-set-lt test zero = omega arith
-keeper-set-lt test (suc k) = omega (arith, bit-add-lt (test (suc k)) (2 ^ k) (keeperSet test k) (keeper-set-lt test k))
+pub keeper_set_lt : (test : ℕ → Bool) (n : ℕ) → keeper_set test n < 2 ^ n
+unfolding keeper_set
+keeper_set_lt test zero = omega arith
+keeper_set_lt test (suc k) = omega (arith, bit-add_lt (test (suc k)) (2 ^ k) (keeper_set test k) (keeper_set_lt test k))
 
 ones_bit : (b : Bool) → ones (bit b) ≡ bit b
 unfolding ones lib.Count.ones_in
@@ -27,12 +27,12 @@ ones_bit true = refl
 ones_bit false = refl
 
 -- "The size of the agreement is the number of ones in that set."
-pub ones-keeper-set : (test : ℕ → Bool) (n : ℕ) → ones (keeperSet test n) ≡ count test (from 1 n)
-unfolding keeperSet count from ones
-ones-keeper-set test zero = refl
-ones-keeper-set test (suc k) =
-    ones_cat k (bit (test (suc k))) (keeperSet test k) (keeper-set-lt test k)
-    ∙ ap₂ ◌+◌ (ones_bit (test (suc k))) (ones-keeper-set test k)
+pub ones-keeper_set : (test : ℕ → Bool) (n : ℕ) → ones (keeper_set test n) ≡ count test (from 1 n)
+unfolding keeper_set count from ones
+ones-keeper_set test zero = refl
+ones-keeper_set test (suc k) =
+    ones_cat k (bit (test (suc k))) (keeper_set test k) (keeper_set_lt test k)
+    ∙ ap₂ ◌+◌ (ones_bit (test (suc k))) (ones-keeper_set test k)
     ∙ sym (count-suc test k)
 
 -- below place n a number's digits are those of what stands below n
@@ -50,11 +50,11 @@ bit_test true = refl
 bit_test false = refl
 
 module _ (b : Bool) (r n : ℕ) (h : r < 2 ^ n) where
-  member-top : member (bit b * 2 ^ n + r) (suc n) ≡ b
-  member-top = member-suc (bit b * 2 ^ n + r) n ∙ ap (λ (i : ℕ). eqb (i % 2) 1) (high (bit b) n h) ∙ bit_test b
+  member_top : member (bit b * 2 ^ n + r) (suc n) ≡ b
+  member_top = member-suc (bit b * 2 ^ n + r) n ∙ ap (λ (i : ℕ). eqb (i % 2) 1) (high (bit b) n h) ∙ bit_test b
 
-  member-low : (k : ℕ) → k < n → member (bit b * 2 ^ n + r) (suc k) ≡ member r (suc k)
-  member-low k l =
+  member_low : (k : ℕ) → k < n → member (bit b * 2 ^ n + r) (suc k) ≡ member r (suc k)
+  member_low k l =
       let d = n - suc k in
       let e : suc d + k ≡ n = omega arith in
       member-suc (bit b * 2 ^ n + r) k ∙ ap (λ (i : ℕ). eqb i 1) (rw e at (digit_low (bit b) r k d)) ∙ sym (member-suc r k)
@@ -66,77 +66,77 @@ member-past set n (suc k) h l =
     member-suc set k ∙ ap (λ (i : ℕ). eqb (i % 2) 1) (div-eq_of_lt (lt_of_lt_of_le h (pow_mono (le_of_suc-le-suc l))))
 
 -- the keepers of the set are those of 1..n that pass
-pub member-keeper-set : (test : ℕ → Bool) (n x : ℕ) → 1 ≤ x → x ≤ n → member (keeperSet test n) x ≡ test x
-unfolding keeperSet
-member-keeper-set test zero x l h = absurd (omega arith)
-member-keeper-set test (suc n) zero l h = absurd (omega arith)
-member-keeper-set test (suc n) (suc k) l h =
-    ⊎_elim (λ e. rw e (member-top (test (suc n)) (keeperSet test n) n (keeper-set-lt test n)))
-    (λ g. member-low (test (suc n)) (keeperSet test n) n (keeper-set-lt test n) k g ∙ member-keeper-set test n (suc k) l g)
+pub member-keeper_set : (test : ℕ → Bool) (n x : ℕ) → 1 ≤ x → x ≤ n → member (keeper_set test n) x ≡ test x
+unfolding keeper_set
+member-keeper_set test zero x l h = absurd (omega arith)
+member-keeper_set test (suc n) zero l h = absurd (omega arith)
+member-keeper_set test (suc n) (suc k) l h =
+    ⊎_elim (λ e. rw e (member_top (test (suc n)) (keeper_set test n) n (keeper_set_lt test n)))
+    (λ g. member_low (test (suc n)) (keeper_set test n) n (keeper_set_lt test n) k g ∙ member-keeper_set test n (suc k) l g)
     (eq-or-lt_of_le (le_of_suc-le-suc h))
 
 -- whoever is of the set passes
-pub member-passes : (test : ℕ → Bool) (n x : ℕ) → 1 ≤ x → member (keeperSet test n) x ≡ true → test x ≡ true
-member-passes test n x l e =
-    by_cases (dec_le x n) (λ h. sym (member-keeper-set test n x l h) ∙ e)
-    (λ h. absurd (true≢false (sym e ∙ member-past (keeperSet test n) n x (keeper-set-lt test n) (omega arith))))
+pub member_passes : (test : ℕ → Bool) (n x : ℕ) → 1 ≤ x → member (keeper_set test n) x ≡ true → test x ≡ true
+member_passes test n x l e =
+    by_cases (dec_le x n) (λ h. sym (member-keeper_set test n x l h) ∙ e)
+    (λ h. absurd (true≢false (sym e ∙ member-past (keeper_set test n) n x (keeper_set_lt test n) (omega arith))))
 
 -- tests that agree on 1..n give one set
-pub keeper-set-same : (f g : ℕ → Bool) (n : ℕ) → ((x : ℕ) → 1 ≤ x → x ≤ n → f x ≡ g x) → keeperSet f n ≡ keeperSet g n
-unfolding keeperSet
-keeper-set-same f g zero h = refl
-keeper-set-same f g (suc k) h =
-    ap₂ (λ (b : Bool) (s : ℕ). bit b * 2 ^ k + s) (h (suc k) (omega arith) (omega arith)) (keeper-set-same f g k (λ x l m. h x l (omega arith)))
+pub keeper_set_same : (f g : ℕ → Bool) (n : ℕ) → ((x : ℕ) → 1 ≤ x → x ≤ n → f x ≡ g x) → keeper_set f n ≡ keeper_set g n
+unfolding keeper_set
+keeper_set_same f g zero h = refl
+keeper_set_same f g (suc k) h =
+    ap₂ (λ (b : Bool) (s : ℕ). bit b * 2 ^ k + s) (h (suc k) (omega arith) (omega arith)) (keeper_set_same f g k (λ x l m. h x l (omega arith)))
 
 -- one keeper more, in rising order: it joins, or it does not
-pub keeper-set-joined : (test : ℕ → Bool) (k : ℕ) → test (k + 1) ≡ true → keeperSet test (k + 1) ≡ keeperSet test k + 2 ^ k
-unfolding keeperSet
-keeper-set-joined test k = rw (add-one k) (λ e. rw e (omega arith))
+pub keeper_set_joined : (test : ℕ → Bool) (k : ℕ) → test (k + 1) ≡ true → keeper_set test (k + 1) ≡ keeper_set test k + 2 ^ k
+unfolding keeper_set
+keeper_set_joined test k = rw (add-one k) (λ e. rw e (omega arith))
 
-pub keeper-set-skipped : (test : ℕ → Bool) (k : ℕ) → test (k + 1) ≡ false → keeperSet test (k + 1) ≡ keeperSet test k
-unfolding keeperSet
-keeper-set-skipped test k = rw (add-one k) (λ e. rw e (omega arith))
+pub keeper_set_skipped : (test : ℕ → Bool) (k : ℕ) → test (k + 1) ≡ false → keeper_set test (k + 1) ≡ keeper_set test k
+unfolding keeper_set
+keeper_set_skipped test k = rw (add-one k) (λ e. rw e (omega arith))
 
-one-digit : (d : ℕ) → d < 2 → d ≡ bit (eqb d 1)
-one-digit zero h = refl
-one-digit (suc zero) h = refl
-one-digit (suc (suc d)) h = absurd (omega arith)
+one_digit : (d : ℕ) → d < 2 → d ≡ bit (eqb d 1)
+one_digit zero h = refl
+one_digit (suc zero) h = refl
+one_digit (suc (suc d)) h = absurd (omega arith)
 
-of-digits : (b : Bool) (r k : ℕ) → r < 2 ^ k → keeperSet (member r) k ≡ r → keeperSet (member (bit b * 2 ^ k + r)) (suc k) ≡ bit b * 2 ^ k + r
-unfolding keeperSet
-of-digits b r k h e =
-    ap₂ (λ (c : Bool) (s : ℕ). bit c * 2 ^ k + s) (member-top b r k h) (keeper-set-same (member (bit b * 2 ^ k + r)) (member r) k low ∙ e)
+of_digits : (b : Bool) (r k : ℕ) → r < 2 ^ k → keeper_set (member r) k ≡ r → keeper_set (member (bit b * 2 ^ k + r)) (suc k) ≡ bit b * 2 ^ k + r
+unfolding keeper_set
+of_digits b r k h e =
+    ap₂ (λ (c : Bool) (s : ℕ). bit c * 2 ^ k + s) (member_top b r k h) (keeper_set_same (member (bit b * 2 ^ k + r)) (member r) k low ∙ e)
   where
     low : (x : ℕ) → 1 ≤ x → x ≤ k → member (bit b * 2 ^ k + r) x ≡ member r x
     low zero l m = absurd (omega arith)
-    low (suc j) l m = member-low b r k h j m
+    low (suc j) l m = member_low b r k h j m
 
 -- a number is the set of its keepers
-pub keeper-set-member : (n set : ℕ) → set < 2 ^ n → keeperSet (member set) n ≡ set
-unfolding keeperSet
-keeper-set-member zero set h = omega arith
-keeper-set-member (suc k) set h =
+pub keeper_set-member : (n set : ℕ) → set < 2 ^ n → keeper_set (member set) n ≡ set
+unfolding keeper_set
+keeper_set-member zero set h = omega arith
+keeper_set-member (suc k) set h =
     let d = set / 2 ^ k in
     let r = set % 2 ^ k in
     let l : d < 2 = (div-lt_iff_lt-mul (pow_pos k)).1 (omega arith) in
-    let e : bit (eqb d 1) * 2 ^ k + r ≡ set = ap (λ (i : ℕ). i * 2 ^ k + r) (sym (one-digit d l)) ∙ split set k in
-    rw e at (of-digits (eqb d 1) r k (mod-lt set (pow_pos k)) (keeper-set-member k r (mod-lt set (pow_pos k))))
+    let e : bit (eqb d 1) * 2 ^ k + r ≡ set = ap (λ (i : ℕ). i * 2 ^ k + r) (sym (one_digit d l)) ∙ split set k in
+    rw e at (of_digits (eqb d 1) r k (mod-lt set (pow_pos k)) (keeper_set-member k r (mod-lt set (pow_pos k))))
 
 -- how many keepers a number has
 pub ones-member : (n set : ℕ) → set < 2 ^ n → ones set ≡ count (member set) (from 1 n)
-ones-member n set h = ap ones (sym (keeper-set-member n set h)) ∙ ones-keeper-set (member set) n
+ones-member n set h = ap ones (sym (keeper_set-member n set h)) ∙ ones-keeper_set (member set) n
 
 -- one keeper more in a number whose keepers all come before it
 module _ (base k : ℕ) (h : base < 2 ^ k) where
-  as-digits : base + 2 ^ k ≡ bit true * 2 ^ k + base
-  as-digits = omega arith
+  as_digits : base + 2 ^ k ≡ bit true * 2 ^ k + base
+  as_digits = omega arith
 
-  pub joined-lt : base + 2 ^ k < 2 ^ (k + 1)
-  joined-lt = rw (add-one k) (omega arith)
+  pub joined_lt : base + 2 ^ k < 2 ^ (k + 1)
+  joined_lt = rw (add-one k) (omega arith)
 
-  pub joined-below : (n : ℕ) → k < n → base + 2 ^ k < 2 ^ n
-  joined-below n l = lt_of_lt_of_le joined-lt (pow_mono {i = k + 1} {j = n} (omega arith))
+  pub joined_below : (n : ℕ) → k < n → base + 2 ^ k < 2 ^ n
+  joined_below n l = lt_of_lt_of_le joined_lt (pow_mono {i = k + 1} {j = n} (omega arith))
 
-  pub ones-joined : ones (base + 2 ^ k) ≡ ones base + 1
+  pub ones_joined : ones (base + 2 ^ k) ≡ ones base + 1
   unfolding ones lib.Count.ones_in
-  ones-joined = rw as-digits (ones_cat k 1 base h ∙ add_comm 1 (ones base))
+  ones_joined = rw as_digits (ones_cat k 1 base h ∙ add_comm 1 (ones base))

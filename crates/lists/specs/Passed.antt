@@ -3,7 +3,7 @@
 use Rattle.std.specs.Prelude.{ℕ, ◌+◌, ◌<◌, ◌≤◌, ◌≡◌, refl, Bool, true, false, List, length, get_or}
 use Rattle.std.proofs.Common.{sym, ap, ◌∙◌, not-suc-le-zero, arith, below_more}
 use Rattle.std.proofs.lemmas.Bool.{false≢true}
-use Rattle.lists.specs.SameBytes.{sameBytes, apart-not-same, alike_same}
+use Rattle.lists.specs.SameBytes.{same_bytes, apart_not_same, alike_same}
 
 -- the first i are the same until two of them are not
 pub record Passed (xs ys : List ℕ) (i : ℕ) (same : Bool) : Type 0 where
@@ -19,8 +19,8 @@ passed_none = record {
 }
 
 module _ {xs ys : List ℕ} {i : ℕ} where
-  pub passed-alike : {same next : Bool} → Passed xs ys i same → i < length xs → get_or xs i 0 ≡ get_or ys i 0 → next ≡ same → Passed xs ys (i + 1) next
-  passed-alike p l e n = record {
+  pub passed_alike : {same next : Bool} → Passed xs ys i same → i < length xs → get_or xs i 0 ≡ get_or ys i 0 → next ≡ same → Passed xs ys (i + 1) next
+  passed_alike p l e n = record {
     within = omega arith;
     alike = λ t. below_more _ _ (p.alike (sym n ∙ t)) e;
     apart = λ t. p.apart (sym n ∙ t);
@@ -33,6 +33,6 @@ module _ {xs ys : List ℕ} {i : ℕ} where
     apart = λ t e. d (ap (λ (ws : List ℕ). get_or ws i 0) e);
   }
 
-  pub passed-all : (same : Bool) → Passed xs ys i same → length xs ≤ i → length xs ≡ length ys → same ≡ sameBytes xs ys
-  passed-all true p l e = alike_same xs ys e (λ k h. p.alike refl k (omega arith))
-  passed-all false p l e = apart-not-same xs ys (p.apart refl)
+  pub passed_all : (same : Bool) → Passed xs ys i same → length xs ≤ i → length xs ≡ length ys → same ≡ same_bytes xs ys
+  passed_all true p l e = alike_same xs ys e (λ k h. p.alike refl k (omega arith))
+  passed_all false p l e = apart_not_same xs ys (p.apart refl)

@@ -7,30 +7,30 @@ use mathlib.Core.List.{List, [], ◌++◌, append_assoc, append-nil}
 use native.Mathlib.Omega.{arith}
 use Rattle.std.proofs.Math.ListN.{length-append}
 use Rattle.std.proofs.Math.Seq.{drop_at}
-use Rattle.lists.specs.Below.{Below, below-nil, below-append}
-use Rattle.lists.specs.Grown.{grown-same}
+use Rattle.lists.specs.Below.{Below, below_nil, below_append}
+use Rattle.lists.specs.Grown.{grown_same}
 
 unfoldable pub pieces : (ℕ → List ℕ) → ℕ → List ℕ
 pieces f zero = []
 pieces f (suc k) = pieces f k ++ f k
 
-pub pieces-same : (f g : ℕ → List ℕ) (k : ℕ) → ((i : ℕ) → i < k → f i ≡ g i) → pieces f k ≡ pieces g k
+pub pieces_same : (f g : ℕ → List ℕ) (k : ℕ) → ((i : ℕ) → i < k → f i ≡ g i) → pieces f k ≡ pieces g k
 unfolding pieces
-pieces-same = grown-same pieces ◌++◌ (λ f g. refl) (λ f k. refl)
+pieces_same = grown_same pieces ◌++◌ (λ f g. refl) (λ f k. refl)
 
-pub below-pieces : (q : ℕ) (f : ℕ → List ℕ) (k : ℕ) → ((i : ℕ) → i < k → Below q (f i)) → Below q (pieces f k)
+pub below_pieces : (q : ℕ) (f : ℕ → List ℕ) (k : ℕ) → ((i : ℕ) → i < k → Below q (f i)) → Below q (pieces f k)
 unfolding pieces
-below-pieces q f zero h = below-nil q
-below-pieces q f (suc k) h = below-append q (pieces f k) (f k) (below-pieces q f k (λ i l. h i (omega arith))) (h k (omega arith))
+below_pieces q f zero h = below_nil q
+below_pieces q f (suc k) h = below_append q (pieces f k) (f k) (below_pieces q f k (λ i l. h i (omega arith))) (h k (omega arith))
 
 -- a list of k times n numbers is its own parts, end to end
-front-pieces : (n k : ℕ) (xs : List ℕ) → pieces (λ p. take n (drop (n * p) xs)) k ≡ take (n * k) xs
+front_pieces : (n k : ℕ) (xs : List ℕ) → pieces (λ p. take n (drop (n * p) xs)) k ≡ take (n * k) xs
 unfolding pieces
-front-pieces n zero xs = rw mul-zero
-front-pieces n (suc k) xs = rw (mul-suc, take-add, front-pieces n k xs)
+front_pieces n zero xs = rw mul-zero
+front_pieces n (suc k) xs = rw (mul-suc, take-add, front_pieces n k xs)
 
 pub pieces-parts : (n k : ℕ) (xs : List ℕ) → length xs ≡ k * n → pieces (λ p. take n (drop (n * p) xs)) k ≡ xs
-pieces-parts n k xs size = front-pieces n k xs ∙ take_all (n * k) xs (omega arith)
+pieces-parts n k xs size = front_pieces n k xs ∙ take_all (n * k) xs (omega arith)
 
 -- pieces of one size
 module _ (n : ℕ) (f : ℕ → List ℕ) where

@@ -6,8 +6,8 @@ use borrow.Fn.Kinds.{In}
 use borrow.Fn.PlainCycle.{Measures, is, falls, and}
 
 module _ (n : ℕ) (ps : List (ParamKind n)) (μ : Measures n ps ℕ) (Pre : In n ps) (t : ℕ) where
-  abbrev pub givenAt : In n ps
-  givenAt = and n ps (is n ps μ t) Pre
+  abbrev pub given_at : In n ps
+  given_at = and n ps (is n ps μ t) Pre
 
-  abbrev pub askedBelow : In n ps
-  askedBelow = and n ps (falls n ps ◌<◌ μ t) Pre
+  abbrev pub asked_below : In n ps
+  asked_below = and n ps (falls n ps ◌<◌ μ t) Pre

@@ -9,6 +9,6 @@ same_test false true there back = back refl
 same_test false false there back = refl
 
 -- past the same first test
-pub same-and : (a b c : Bool) → (a ≡ true → b ≡ c) → (a && b) ≡ (a && c)
-same-and true b c h = h refl
-same-and false b c h = refl
+pub same_and : (a b c : Bool) → (a ≡ true → b ≡ c) → (a && b) ≡ (a && c)
+same_and true b c h = h refl
+same_and false b c h = refl

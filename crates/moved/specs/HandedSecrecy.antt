@@ -4,65 +4,65 @@
 -- Assumes nothing.
 use Rattle.std.specs.Prelude.{ℕ, ◌*◌, ◌≤◌, ◌≡◌, List, ◌∷◌, length, get_or}
 use Rattle.std.proofs.Common.{sym, arith}
-use Rattle.lists.specs.Below.{Below, below-cons}
+use Rattle.lists.specs.Below.{Below, below_cons}
 use Rattle.lists.specs.ExactlyOne.{ExactlyOne}
-use Rattle.lists.specs.Member.{In, in-getD}
+use Rattle.lists.specs.Member.{In, in_get_d}
 use Rattle.algebra.specs.Field.{Ops}
 use Rattle.algebra.specs.Points.{Points}
 use Rattle.header.specs.declared.told.Told.{Told}
-use Rattle.header.specs.OrderLaws.{KeeperFacts, lawful-order-facts, lawful-keeper-facts}
+use Rattle.header.specs.OrderLaws.{KeeperFacts, lawful_order_facts, lawful_keeper_facts}
 use Rattle.format.specs.Reading.{shares_of}
 use Rattle.tray.specs.Tray.{slot_of}
-use Rattle.shares.specs.Shares.{shareWords}
+use Rattle.shares.specs.Shares.{share_words}
 use Rattle.cut.specs.LetterField.{LetterField}
 use Rattle.cut.specs.OneCut.{OneCut}
-use Rattle.demands.specs.SameShares.{GivesSame, shares-exactly-one, exactly-one-as}
+use Rattle.demands.specs.SameShares.{GivesSame, shares_exactly_one, exactly_one_as}
 use Rattle.demands.specs.Secrecy.{AnyKeepers}
-use Rattle.moving.specs.Cutting.{subLetter, subTray}
-use Rattle.moved.specs.SubLetters.{sub-reads, slot-sub}
+use Rattle.moving.specs.Cutting.{sub_letter, sub_tray}
+use Rattle.moved.specs.SubLetters.{sub_reads, slot-sub}
 
 -- what a new keeper reads in its sub-letter
 shares-sub : {O : Ops} (F : LetterField O) {told : Told} {stamp : ℕ} {shares random : List ℕ} (C : OneCut O told stamp shares random) (from : ℕ) (small : from ≤ 256)
     (x : ℕ) → KeeperFacts told.order x
-    → shares_of (slot_of (subTray O told stamp from shares random) x) (length shares) ≡ shareWords O told.order.t x shares random
-unfolding subLetter
-shares-sub F C from small x k = rw (slot-sub F C from small x k) (sub-reads F C from small x k).same-shares
+    → shares_of (slot_of (sub_tray O told stamp from shares random) x) (length shares) ≡ share_words O told.order.t x shares random
+unfolding sub_letter
+shares-sub F C from small x k = rw (slot-sub F C from small x k) (sub_reads F C from small x k).same_shares
 
 module _ {O : Ops} (F : LetterField O) {told : Told} {stamp : ℕ} {ks shares random : List ℕ} (C : OneCut O told stamp shares random) (from : ℕ) (small : from ≤ 256)
     (K : AnyKeepers told.order ks) (shares' : List ℕ) (s : length shares' ≡ length shares) (b : Below O.q shares') where
-  a-keeper : (x : ℕ) → In x ks → KeeperFacts told.order x
-  a-keeper x m = lawful-keeper-facts told.order x (K.keepers x m)
+  a_keeper : (x : ℕ) → In x ks → KeeperFacts told.order x
+  a_keeper x m = lawful_keeper_facts told.order x (K.keepers x m)
 
   points : Points O.q (0 ∷ ks)
   points =
-      let o = lawful-order-facts told.order C.of_words.order-lawful in
+      let o = lawful_order_facts told.order C.of_words.order_lawful in
       record {
-        below = below-cons O.q 0 ks (omega (arith, F.least)) (λ i h. omega (arith, F.least, o, a-keeper (get_or ks i 0) (in-getD ks i h)));
-        different = ((λ m. omega (arith, a-keeper 0 m)), K.different);
+        below = below_cons O.q 0 ks (omega (arith, F.least)) (λ i h. omega (arith, F.least, o, a_keeper (get_or ks i 0) (in_get_d ks i h)));
+        different = ((λ m. omega (arith, a_keeper 0 m)), K.different);
       }
 
   -- another cutting, of the other words
   cutting : (words : List ℕ) → length words ≡ length shares' * told.order.t → Below O.q words → OneCut O told stamp shares' words
   cutting words size below = record {
     of_words = record {
-      order-lawful = C.of_words.order-lawful;
-      length-lawful = rw s C.of_words.length-lawful;
-      constants-below = b;
-      random-size = size;
-      random-below = below;
+      order_lawful = C.of_words.order_lawful;
+      length_lawful = rw s C.of_words.length_lawful;
+      constants_below = b;
+      random_size = size;
+      random_below = below;
     };
-    told-lawful = C.told-lawful;
-    stamp-lawful = C.stamp-lawful;
+    told_lawful = C.told_lawful;
+    stamp_lawful = C.stamp_lawful;
   }
 
   -- "for each list of random words for the first exactly one for the second gives those keepers the same bytes": the bytes are their sub-letters of one old keeper,
   -- and the lists that it holds may be any two of equal length
-  pub handed-secrecy : ExactlyOne (GivesSame O told.order.t ks shares' (λ words x. slot_of (subTray O told stamp from shares' words) x) (slot_of (subTray O told stamp from shares random)))
-  unfolding subLetter
-  handed-secrecy =
-      exactly-one-as O told.order.t ks shares' _ _ _ _
+  pub handed_secrecy : ExactlyOne (GivesSame O told.order.t ks shares' (λ words x. slot_of (sub_tray O told stamp from shares' words) x) (slot_of (sub_tray O told stamp from shares random)))
+  unfolding sub_letter
+  handed_secrecy =
+      exactly_one_as O told.order.t ks shares' _ _ _ _
       (λ words size below x m.
-      let k = a-keeper x m in
+      let k = a_keeper x m in
       let D = cutting words size below in
       (λ e. rw (slot-sub F D from small x k, slot-sub F C from small x k, s, e), λ e. cc (shares-sub F D from small x k, shares-sub F C from small x k)))
-      (shares-exactly-one F.laws told.order.t ks K.many points shares shares' random (sym s) b)
+      (shares_exactly_one F.laws told.order.t ks K.many points shares shares' random (sym s) b)

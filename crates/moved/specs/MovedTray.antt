@@ -5,36 +5,36 @@
 -- Assumes nothing.
 use Rattle.std.specs.Prelude.{ℕ, suc, ◌≡◌, List}
 use Rattle.std.proofs.Common.{arith}
-use Rattle.lists.specs.Pieces.{pieces-same}
+use Rattle.lists.specs.Pieces.{pieces_same}
 use Rattle.algebra.specs.Field.{Ops}
-use Rattle.header.specs.OrderLaws.{facts-lawful-order}
-use Rattle.cut.specs.Cut.{cutTray}
+use Rattle.header.specs.OrderLaws.{facts_lawful_order}
+use Rattle.cut.specs.Cut.{cut_tray}
 use Rattle.cut.specs.LetterField.{LetterField}
 use Rattle.cut.specs.OneCut.{OneCut}
 use Rattle.moving.specs.declared.terms.Move.{Move}
-use Rattle.moved.specs.CarriedPolynomials.{length-sums, below-sums}
-use Rattle.moved.specs.Handed.{new-order}
-use Rattle.moved.specs.Moved.{OneMove, movedTray, carriedWords, carriedRandom}
-use Rattle.moved.specs.MovedLetters.{weighed-letter}
+use Rattle.moved.specs.CarriedPolynomials.{length-sums, below_sums}
+use Rattle.moved.specs.Handed.{new_order}
+use Rattle.moved.specs.Moved.{OneMove, moved_tray, carried_words, carried_random}
+use Rattle.moved.specs.MovedLetters.{weighed_letter_lem}
 
 module _ {O : Ops} (F : LetterField O) {m : Move} {froms : List ℕ} {shares random : ℕ → List ℕ} (M : OneMove O m froms shares random) where
   -- the new tray is what one cut writes
-  pub moved-cut : movedTray O m froms shares random ≡ cutTray O m.told m.stamp (carriedWords O m froms shares) (carriedRandom O m froms random)
-  unfolding movedTray cutTray
-  moved-cut = pieces-same _ _ m.told.order.n (λ k l. weighed-letter F M (suc k) (omega arith))
+  pub moved_cut : moved_tray O m froms shares random ≡ cut_tray O m.told m.stamp (carried_words O m froms shares) (carried_random O m froms random)
+  unfolding moved_tray cut_tray
+  moved_cut = pieces_same _ _ m.told.order.n (λ k l. weighed_letter_lem F M (suc k) (omega arith))
 
   -- and such a cut is lawful
-  pub moved-one-cut : OneCut O m.told m.stamp (carriedWords O m froms shares) (carriedRandom O m froms random)
-  moved-one-cut =
+  pub moved_one_cut : OneCut O m.told m.stamp (carried_words O m froms shares) (carried_random O m froms random)
+  moved_one_cut =
       let many = length-sums O froms shares m.length in
       record {
         of_words = record {
-          order-lawful = facts-lawful-order m.told.order (new-order F M);
-          length-lawful = rw many M.length-lawful;
-          constants-below = below-sums O froms shares m.length F.laws;
-          random-size = rw many (length-sums O froms random _);
-          random-below = below-sums O froms random _ F.laws;
+          order_lawful = facts_lawful_order m.told.order (new_order F M);
+          length_lawful = rw many M.length_lawful;
+          constants_below = below_sums O froms shares m.length F.laws;
+          random_size = rw many (length-sums O froms random _);
+          random_below = below_sums O froms random _ F.laws;
         };
-        told-lawful = M.told-lawful;
-        stamp-lawful = M.stamp-lawful;
+        told_lawful = M.told_lawful;
+        stamp_lawful = M.stamp_lawful;
       }

@@ -7,95 +7,95 @@ use Rattle.lists.specs.Below.{Below}
 use Rattle.lists.specs.ExactlyOne.{ExactlyOne}
 use Rattle.algebra.specs.Field.{Ops}
 use Rattle.tray.specs.Tray.{slot_of}
-use Rattle.shares.specs.Shares.{shareWords}
-use Rattle.shares.specs.ShareWords.{length-share-words, below-share-words}
-use Rattle.cut.specs.Cut.{cutTray}
+use Rattle.shares.specs.Shares.{share_words}
+use Rattle.shares.specs.ShareWords.{length-share_words, below_share_words}
+use Rattle.cut.specs.Cut.{cut_tray}
 use Rattle.cut.specs.LetterField.{LetterField}
 use Rattle.cut.specs.OneCut.{OneCut, shares_cut}
 use Rattle.demands.specs.SameShares.{GivesSame}
 use Rattle.demands.specs.Secrecy.{AnyKeepers, GivesSameBytes, secrecy}
 use Rattle.moving.specs.declared.terms.Move.{Move}
-use Rattle.moving.specs.Move.{oldTold}
-use Rattle.moved.specs.CarriedPolynomials.{length-sums, below-sums}
-use Rattle.moved.specs.Handed.{old-keeper}
-use Rattle.moved.specs.Moved.{OneMove, movedTray, carriedRandom}
-use Rattle.moved.specs.OneChanged.{instead, instead-has, giving, length-giving, below-giving, giving-gives, giving-only}
-use Rattle.moved.specs.TheMove.{heldIn, zero-points, the-move, the-move-cut}
+use Rattle.moving.specs.Move.{old_told}
+use Rattle.moved.specs.CarriedPolynomials.{length-sums, below_sums}
+use Rattle.moved.specs.Handed.{old_keeper}
+use Rattle.moved.specs.Moved.{OneMove, moved_tray, carried_random}
+use Rattle.moved.specs.OneChanged.{instead, instead_has, giving, length_giving, below_giving, giving_gives, giving_only}
+use Rattle.moved.specs.TheMove.{held_in, zero_points, the_move, the_move_cut}
 
 -- the moved tray of one old cut, with other random words drawn by old keeper number j
-abbrev pub movedInstead : Ops → Move → ℕ → List ℕ → List ℕ → List ℕ → (ℕ → List ℕ) → ℕ → List ℕ → List ℕ
-movedInstead O m stamp secret first froms random j drawn =
-    movedTray O m froms (heldIn (cutTray O (oldTold m) stamp secret first) m.length froms) (instead random j drawn)
+abbrev pub moved_instead : Ops → Move → ℕ → List ℕ → List ℕ → List ℕ → (ℕ → List ℕ) → ℕ → List ℕ → List ℕ
+moved_instead O m stamp secret first froms random j drawn =
+    moved_tray O m froms (held_in (cut_tray O (old_told m) stamp secret first) m.length froms) (instead random j drawn)
 
 module _ {O : Ops} (F : LetterField O) {m : Move} {froms : List ℕ} {shares random : ℕ → List ℕ} (M : OneMove O m froms shares random) where
   -- the same move of another cut's letters, with other words drawn by one old keeper
-  module _ {stamp : ℕ} {secret first : List ℕ} (C : OneCut O (oldTold m) stamp secret first) (s : length secret ≡ m.length)
+  module _ {stamp : ℕ} {secret first : List ℕ} (C : OneCut O (old_told m) stamp secret first) (s : length secret ≡ m.length)
       (j : ℕ) (drawn : List ℕ) (size : length drawn ≡ m.length * m.told.order.t) (below : Below O.q drawn) where
-    move-instead : OneMove O m froms (heldIn (cutTray O (oldTold m) stamp secret first) m.length froms) (instead random j drawn)
-    move-instead = record {
-      old-lawful = M.old-lawful;
-      told-lawful = M.told-lawful;
-      stamp-lawful = M.stamp-lawful;
-      length-lawful = M.length-lawful;
+    move_instead : OneMove O m froms (held_in (cut_tray O (old_told m) stamp secret first) m.length froms) (instead random j drawn)
+    move_instead = record {
+      old_lawful = M.old_lawful;
+      told_lawful = M.told_lawful;
+      stamp_lawful = M.stamp_lawful;
+      length_lawful = M.length_lawful;
       many = M.many;
       different = M.different;
       keepers = M.keepers;
-      shares-size = λ k l. rw (shares-held k l) (length-share-words O m.old.t (get_or froms k 0) secret first ∙ s);
-      shares-below = λ k l. rw (shares-held k l) (below-share-words O m.old.t (get_or froms k 0) F.laws secret first);
-      random-size = λ k l. instead-has (λ ws. length ws ≡ m.length * m.told.order.t) random j drawn k size (M.random-size k l);
-      random-below = λ k l. instead-has (Below O.q) random j drawn k below (M.random-below k l);
+      shares_size = λ k l. rw (shares-held k l) (length-share_words O m.old.t (get_or froms k 0) secret first ∙ s);
+      shares_below = λ k l. rw (shares-held k l) (below_share_words O m.old.t (get_or froms k 0) F.laws secret first);
+      random_size = λ k l. instead_has (λ ws. length ws ≡ m.length * m.told.order.t) random j drawn k size (M.random_size k l);
+      random_below = λ k l. instead_has (Below O.q) random j drawn k below (M.random_below k l);
     }
       where
         shares-held : (k : ℕ) → k < length froms
-            → heldIn (cutTray O (oldTold m) stamp secret first) m.length froms k ≡ shareWords O m.old.t (get_or froms k 0) secret first
-        shares-held k l = rw s at (shares_cut F C (get_or froms k 0) (old-keeper F M k l))
+            → held_in (cut_tray O (old_told m) stamp secret first) m.length froms k ≡ share_words O m.old.t (get_or froms k 0) secret first
+        shares-held k l = rw s at (shares_cut F C (get_or froms k 0) (old_keeper F M k l))
 
-    moved-instead : movedInstead O m stamp secret first froms random j drawn ≡ cutTray O m.told m.stamp secret (carriedRandom O m froms (instead random j drawn))
-    moved-instead = the-move F C s move-instead
+    moved_instead_lem : moved_instead O m stamp secret first froms random j drawn ≡ cut_tray O m.told m.stamp secret (carried_random O m froms (instead random j drawn))
+    moved_instead_lem = the_move F C s move_instead
 
-module _ {O : Ops} (F : LetterField O) {m : Move} {stamp : ℕ} {secret first : List ℕ} (C : OneCut O (oldTold m) stamp secret first) (s : length secret ≡ m.length)
-    {froms : List ℕ} {random : ℕ → List ℕ} (M : OneMove O m froms (heldIn (cutTray O (oldTold m) stamp secret first) m.length froms) random)
+module _ {O : Ops} (F : LetterField O) {m : Move} {stamp : ℕ} {secret first : List ℕ} (C : OneCut O (old_told m) stamp secret first) (s : length secret ≡ m.length)
+    {froms : List ℕ} {random : ℕ → List ℕ} (M : OneMove O m froms (held_in (cut_tray O (old_told m) stamp secret first) m.length froms) random)
     {ks : List ℕ} (K : AnyKeepers m.told.order ks)
-    {stamp' : ℕ} {secret' first' : List ℕ} (C' : OneCut O (oldTold m) stamp' secret' first') (s' : length secret' ≡ length secret)
+    {stamp' : ℕ} {secret' first' : List ℕ} (C' : OneCut O (old_told m) stamp' secret' first') (s' : length secret' ≡ length secret)
     (j : ℕ) (l : j < length froms) where
   -- what the new keepers have of the first secret
   abbrev new : List ℕ
-  new = movedTray O m froms (heldIn (cutTray O (oldTold m) stamp secret first) m.length froms) random
+  new = moved_tray O m froms (held_in (cut_tray O (old_told m) stamp secret first) m.length froms) random
 
   -- how many words one old keeper draws
   abbrev count : ℕ
   count = m.length * m.told.order.t
 
   -- the one list of a cut of the second secret
-  one-cut : ExactlyOne (GivesSameBytes O m.told m.stamp ks new secret')
-  one-cut = rw (the-move F C s M) (secrecy F (the-move-cut F C s M) K secret' s' C'.of_words.constants-below)
+  one_cut : ExactlyOne (GivesSameBytes O m.told m.stamp ks new secret')
+  one_cut = rw (the_move F C s M) (secrecy F (the_move_cut F C s M) K secret' s' C'.of_words.constants_below)
 
   -- "For any t keepers and two secrets of equal length, for each list of random words for the first exactly one for the second gives those keepers the same
   -- bytes": the lists are those that old keeper number j draws, and whatever the others drew stays.
-  pub one-draws : ExactlyOne (GivesSame O m.told.order.t ks secret' (λ drawn x. slot_of (movedInstead O m stamp' secret' first' froms random j drawn) x) (slot_of new))
-  one-draws =
-      let E = one-cut in
+  pub one_draws : ExactlyOne (GivesSame O m.told.order.t ks secret' (λ drawn x. slot_of (moved_instead O m stamp' secret' first' froms random j drawn) x) (slot_of new))
+  one_draws =
+      let E = one_cut in
       let e : length secret' ≡ m.length = s' ∙ s in
       let long : length E.one ≡ count = rw e at E.holds.size in
-      let drawn = giving F.laws froms (zero-points F M) random j l count E.one in
-      let size = length-giving F.laws froms (zero-points F M) random j l count E.one in
-      let below = below-giving F.laws froms (zero-points F M) random j l count E.one in
-      let gives = giving-gives F.laws froms (zero-points F M) random j l count E.one long E.holds.below in
+      let drawn = giving F.laws froms (zero_points F M) random j l count E.one in
+      let size = length_giving F.laws froms (zero_points F M) random j l count E.one in
+      let below = below_giving F.laws froms (zero_points F M) random j l count E.one in
+      let gives = giving_gives F.laws froms (zero_points F M) random j l count E.one long E.holds.below in
       record {
         one = drawn;
         holds = record {
           size = rw e size;
           below = below;
-          same = λ x i. ap (λ (tray : List ℕ). slot_of tray x) (moved-instead F M C' e j drawn size below
-              ∙ ap (cutTray O m.told m.stamp secret') gives) ∙ E.holds.same x i;
+          same = λ x i. ap (λ (tray : List ℕ). slot_of tray x) (moved_instead_lem F M C' e j drawn size below
+              ∙ ap (cut_tray O m.told m.stamp secret') gives) ∙ E.holds.same x i;
         };
         only = λ other g.
             let sized : length other ≡ count = rw e at g.size in
-            let sums = carriedRandom O m froms (instead random j other) in
+            let sums = carried_random O m froms (instead random j other) in
             let same : sums ≡ E.one = E.only sums (record {
               size = rw e (length-sums O froms (instead random j other) count);
-              below = below-sums O froms (instead random j other) count F.laws;
-              same = λ x i. ap (λ (tray : List ℕ). slot_of tray x) (sym (moved-instead F M C' e j other sized g.below)) ∙ g.same x i;
+              below = below_sums O froms (instead random j other) count F.laws;
+              same = λ x i. ap (λ (tray : List ℕ). slot_of tray x) (sym (moved_instead_lem F M C' e j other sized g.below)) ∙ g.same x i;
             }) in
-            giving-only F.laws froms (zero-points F M) random j l count other drawn sized size g.below below (same ∙ sym gives);
+            giving_only F.laws froms (zero_points F M) random j l count other drawn sized size g.below below (same ∙ sym gives);
       }

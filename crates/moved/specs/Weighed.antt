@@ -6,33 +6,33 @@ use Rattle.std.proofs.Math.Path.{ap}
 use Rattle.std.proofs.Math.Dec.{eqb}
 use Rattle.std.proofs.Math.ListN.{length}
 use borrow.Author.Tests.{eq-eqb}
-use Rattle.lists.specs.AllTo.{allTo}
-use Rattle.lists.specs.AllToLaws.{all-to-holds}
+use Rattle.lists.specs.AllTo.{all_to}
+use Rattle.lists.specs.AllToLaws.{all_to_holds}
 use Rattle.lists.specs.Different.{Different}
-use Rattle.lists.specs.Member.{In, in-every}
+use Rattle.lists.specs.Member.{In, in_every}
 use Rattle.algebra.specs.Field.{Ops}
-use Rattle.header.specs.HeadLaws.{equal-same-head}
-use Rattle.header.specs.Order.{lawfulKeeper}
-use Rattle.header.specs.OrderLaws.{KeeperFacts, facts-lawful-keeper}
-use Rattle.header.specs.TermsLaws.{lawful-terms-facts, facts-terms}
-use Rattle.format.specs.GoodSlot.{good-slot}
-use Rattle.format.specs.Letter.{blocksFor}
+use Rattle.header.specs.HeadLaws.{equal_same_head}
+use Rattle.header.specs.Order.{lawful_keeper}
+use Rattle.header.specs.OrderLaws.{KeeperFacts, facts_lawful_keeper}
+use Rattle.header.specs.TermsLaws.{lawful_terms_facts, facts_terms}
+use Rattle.format.specs.GoodSlot.{good_slot}
+use Rattle.format.specs.Letter.{blocks_for}
 use Rattle.format.specs.Reading.{number_of}
-use Rattle.tray.specs.Tray.{headFor, slot_of}
-use Rattle.cut.specs.Cut.{cutTray}
+use Rattle.tray.specs.Tray.{head_for, slot_of}
+use Rattle.cut.specs.Cut.{cut_tray}
 use Rattle.cut.specs.LetterField.{LetterField}
 use Rattle.cut.specs.OneCut.{slot-cut}
 use Rattle.moving.specs.declared.terms.Move.{Move}
-use Rattle.moving.specs.Move.{moveNumber}
+use Rattle.moving.specs.Move.{move_number}
 use Rattle.sub_letters.specs.declared.judging.Weighing.{Weighing}
-use Rattle.sub_letters.specs.Subs.{subHead, fromAt, fromsOf, steady, fromsRight}
-use Rattle.sub_letters.specs.Judging.{weighRefusal, only, firstSub, faultAt, otherAt, subsAnswer, weighAnswer}
-use Rattle.weighing.specs.Weighing.{weighedLetter, WeighDone}
-use Rattle.moved.specs.Handed.{length-handed, read-handed, from-handed, froms-handed, some_block}
-use Rattle.moved.specs.KeeperTests.{all-keepers, different-differ, each_in}
-use Rattle.moved.specs.Moved.{OneMove, handedTo, carriedWords, carriedRandom}
-use Rattle.moved.specs.MovedLetters.{weighed-letter}
-use Rattle.moved.specs.MovedTray.{moved-one-cut}
+use Rattle.sub_letters.specs.Subs.{sub_head, from_at, froms_of, steady, froms_right}
+use Rattle.sub_letters.specs.Judging.{weigh_refusal, only, first_sub, fault_at, other_at, subs_answer, weigh_answer}
+use Rattle.weighing.specs.Weighing.{weighed_letter, WeighDone}
+use Rattle.moved.specs.Handed.{length_handed, read_handed, from_handed, froms_handed, some_block}
+use Rattle.moved.specs.KeeperTests.{all_keepers_lem, different_differ, each_in_lem}
+use Rattle.moved.specs.Moved.{OneMove, handed_to, carried_words, carried_random}
+use Rattle.moved.specs.MovedLetters.{weighed_letter_lem}
+use Rattle.moved.specs.MovedTray.{moved_one_cut}
 
 -- "the t+1 old keepers" that a weighing is told: those of the move, each once, in any order
 pub record SameKeepers (froms keepers : List ℕ) : Type 0 where
@@ -42,71 +42,71 @@ pub record SameKeepers (froms keepers : List ℕ) : Type 0 where
   pub named : (x : ℕ) → In x froms → In x keepers
 
 -- a rule that gives no number
-first-none : (rule : ℕ → Weighing) (k many : ℕ) → ((i : ℕ) → i < k + many → (rule i).number ≡ 0) → firstSub rule k many ≡ only 0
-unfolding firstSub
-first-none rule k zero h = refl
-first-none rule k (suc many) h = rw (eq-eqb (rule k).number 0 (h k (omega arith))) (first-none rule (suc k) many (λ i l. h i (omega arith)))
+first_none : (rule : ℕ → Weighing) (k many : ℕ) → ((i : ℕ) → i < k + many → (rule i).number ≡ 0) → first_sub rule k many ≡ only 0
+unfolding first_sub
+first_none rule k zero h = refl
+first_none rule k (suc many) h = rw (eq-eqb (rule k).number 0 (h k (omega arith))) (first_none rule (suc k) many (λ i l. h i (omega arith)))
 
 module _ {O : Ops} (F : LetterField O) {m : Move} {froms : List ℕ} {shares random : ℕ → List ℕ} (M : OneMove O m froms shares random)
     {keepers : List ℕ} (S : SameKeepers froms keepers) (x : ℕ) (new : KeeperFacts m.told.order x) where
   -- all that x is handed
   abbrev letters : List ℕ
-  letters = handedTo O m froms shares random x
+  letters = handed_to O m froms shares random x
 
-  lawful : (y : ℕ) → In y keepers → lawfulKeeper m.old y ≡ true
-  lawful y i = in-every (λ z. lawfulKeeper m.old z ≡ true) froms M.keepers y (S.known y i)
+  lawful : (y : ℕ) → In y keepers → lawful_keeper m.old y ≡ true
+  lawful y i = in_every (λ z. lawful_keeper m.old z ≡ true) froms M.keepers y (S.known y i)
 
-  weigh-not-refused : (slot : List ℕ) → length slot ≡ 2048 → weighRefusal m keepers x letters slot ≡ 0
-  unfolding weighRefusal moveNumber
-  weigh-not-refused slot room =
+  weigh_not_refused : (slot : List ℕ) → length slot ≡ 2048 → weigh_refusal m keepers x letters slot ≡ 0
+  unfolding weigh_refusal move_number
+  weigh_not_refused slot room =
       rw (
-        M.old-lawful,
-        all-keepers m.old keepers lawful,
-        facts-lawful-keeper m.told.order x new,
-        facts-terms m.told m.stamp m.length (lawful-terms-facts m.told m.stamp m.length M.told-lawful M.length-lawful M.stamp-lawful),
+        M.old_lawful,
+        all_keepers_lem m.old keepers lawful,
+        facts_lawful_keeper m.told.order x new,
+        facts_terms m.told m.stamp m.length (lawful_terms_facts m.told m.stamp m.length M.told_lawful M.length_lawful M.stamp_lawful),
         eq-eqb (length keepers) (m.old.t + 1) (S.many ∙ M.many),
-        eq-eqb (length letters) (2048 * (m.old.t + 1)) (length-handed F M x new ∙ ap (λ (n : ℕ). 2048 * n) M.many),
+        eq-eqb (length letters) (2048 * (m.old.t + 1)) (length_handed F M x new ∙ ap (λ (n : ℕ). 2048 * n) M.many),
         eq-eqb (length slot) 2048 room,
       )
 
-  faultless : (k : ℕ) → k < length keepers → (faultAt letters k).number ≡ 0
-  faultless k l = ap number_of (read-handed F M x new k (omega (arith, S.many)))
+  faultless : (k : ℕ) → k < length keepers → (fault_at letters k).number ≡ 0
+  faultless k l = ap number_of (read_handed F M x new k (omega (arith, S.many)))
 
-  as-told : (k : ℕ) → k < length keepers → (otherAt m x letters k).number ≡ 0
-  as-told k l =
-      let read = read-handed F M x new k (omega (arith, S.many)) in
-      rw (equal-same-head (subHead letters k) (headFor m.told m.stamp m.length x) (good-slot 82 256 _ _ read).first)
+  as_told_lem : (k : ℕ) → k < length keepers → (other_at m x letters k).number ≡ 0
+  as_told_lem k l =
+      let read = read_handed F M x new k (omega (arith, S.many)) in
+      rw (equal_same_head (sub_head letters k) (head_for m.told m.stamp m.length x) (good_slot 82 256 _ _ read).first)
 
-  steady-handed : steady letters (length keepers) m.length ≡ true
+  steady_handed : steady letters (length keepers) m.length ≡ true
   unfolding steady
-  steady-handed =
-      all-to-holds (λ k. allTo (λ p. eqb (fromAt letters k p) (fromAt letters k 0)) (blocksFor m.length)) (length keepers)
-      (λ k l. all-to-holds (λ p. eqb (fromAt letters k p) (fromAt letters k 0)) (blocksFor m.length) (λ p h.
+  steady_handed =
+      all_to_holds (λ k. all_to (λ p. eqb (from_at letters k p) (from_at letters k 0)) (blocks_for m.length)) (length keepers)
+      (λ k l. all_to_holds (λ p. eqb (from_at letters k p) (from_at letters k 0)) (blocks_for m.length) (λ p h.
       let within : k < length froms = omega (arith, S.many) in
-      eq-eqb (fromAt letters k p) (fromAt letters k 0) (cc (from-handed F M x new k within p h, from-handed F M x new k within 0 (some_block F M)))))
+      eq-eqb (from_at letters k p) (from_at letters k 0) (cc (from_handed F M x new k within p h, from_handed F M x new k within 0 (some_block F M)))))
 
-  froms-right : fromsRight keepers letters m.length ≡ true
-  unfolding fromsRight
-  froms-right =
-      let named : fromsOf letters (length keepers) ≡ froms = ap (fromsOf letters) S.many ∙ froms-handed F M x new in
-      rw (named, different-differ keepers S.different, different-differ froms M.different, each_in keepers froms S.known, each_in froms keepers S.named)
-      steady-handed
+  froms_right_lem : froms_right keepers letters m.length ≡ true
+  unfolding froms_right
+  froms_right_lem =
+      let named : froms_of letters (length keepers) ≡ froms = ap (froms_of letters) S.many ∙ froms_handed F M x new in
+      rw (named, different_differ keepers S.different, different_differ froms M.different, each_in_lem keepers froms S.known, each_in_lem froms keepers S.named)
+      steady_handed
 
   -- nothing is refused
-  pub weigh-answers : (slot : List ℕ) → length slot ≡ 2048 → weighAnswer m keepers x letters slot ≡ only 0
-  unfolding weighAnswer subsAnswer
-  weigh-answers slot room =
+  pub weigh_answers : (slot : List ℕ) → length slot ≡ 2048 → weigh_answer m keepers x letters slot ≡ only 0
+  unfolding weigh_answer subs_answer
+  weigh_answers slot room =
       rw (
-        weigh-not-refused slot room,
-        first-none (faultAt letters) 0 (length keepers) (λ i l. faultless i (omega arith)),
-        first-none (otherAt m x letters) 0 (length keepers) (λ i l. as-told i (omega arith)),
-        froms-right,
+        weigh_not_refused slot room,
+        first_none (fault_at letters) 0 (length keepers) (λ i l. faultless i (omega arith)),
+        first_none (other_at m x letters) 0 (length keepers) (λ i l. as_told_lem i (omega arith)),
+        froms_right_lem,
       )
 
   -- "the new keeper weighs": its call answers 0, and leaves its slot of the new tray
-  pub weigh-done : {slot left : List ℕ} {answer : Weighing} → length slot ≡ 2048 → WeighDone O m keepers x letters slot answer left
-      → (answer ≡ only 0) × (left ≡ slot_of (cutTray O m.told m.stamp (carriedWords O m froms shares) (carriedRandom O m froms random)) x)
-  weigh-done {slot} room D =
-      let e = D.answers ∙ weigh-answers slot room in
+  pub weigh_done : {slot left : List ℕ} {answer : Weighing} → length slot ≡ 2048 → WeighDone O m keepers x letters slot answer left
+      → (answer ≡ only 0) × (left ≡ slot_of (cut_tray O m.told m.stamp (carried_words O m froms shares) (carried_random O m froms random)) x)
+  weigh_done {slot} room D =
+      let e = D.answers ∙ weigh_answers slot room in
       let left = rw e at D.leaves in
-      (e, left ∙ (ap (weighedLetter O m x letters) S.many ∙ (weighed-letter F M x new ∙ sym (slot-cut F (moved-one-cut F M) x new))))
+      (e, left ∙ (ap (weighed_letter O m x letters) S.many ∙ (weighed_letter_lem F M x new ∙ sym (slot-cut F (moved_one_cut F M) x new))))

@@ -5,5 +5,5 @@ use Rattle.header.specs.TermsLaws.{TermsFacts}
 use Rattle.moving.specs.declared.terms.Move.{Move}
 
 pub record MoveTerms (m : Move) : Type 0 where
-  pub of-old : OrderFacts m.old
-  pub of-terms : TermsFacts m.told m.stamp m.length
+  pub of_old : OrderFacts m.old
+  pub of_terms : TermsFacts m.told m.stamp m.length

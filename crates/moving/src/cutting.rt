@@ -2,11 +2,11 @@
 ghost use Rattle.std.specs.Prelude.{◌≡◌, suc, ◌*◌, length};
 ghost use Rattle.lists.specs.Pieces.{pieces};
 ghost use Rattle.field.specs.Modulo.{mod257};
-ghost use Rattle.format.specs.Letter.{slotBytes};
+ghost use Rattle.format.specs.Letter.{slot_bytes};
 ghost use Rattle.format.specs.Reading.{read_of, shares_of, place_of};
-ghost use Rattle.tray.specs.Tray.{headFor};
+ghost use Rattle.tray.specs.Tray.{head_for};
 ghost use Rattle.shares.specs.Words.{row_of};
-ghost use Rattle.moving.specs.Cutting.{subTray, cutLent, cutRefusal, oldNumber, oldLetter, moveCutNumber, MoveCutDone};
+ghost use Rattle.moving.specs.Cutting.{sub_tray, cut_lent, cut_refusal, old_number, old_letter, move_cut_number, MoveCutDone};
 ghost use Rattle.moving.specs.Lent.{MoveTerms};
 
 use crate::terms::{Move, move_number, old_told};
@@ -31,14 +31,14 @@ pub struct Cutting {
 // Whether the parts that are lent have their lengths.
 fn is_lent(m: Move, letter: &[u8], random: &[u16], tray: &[u8]) -> bool
     requires { MoveTerms m }
-    ensures { result ≡ cutLent m letter.now random.now tray.now }
+    ensures { result ≡ cut_lent m letter.now random.now tray.now }
 {
     letter.len() == 2048 && lent_right(m.told.order, m.length, random.len(), 2048, tray.len())
 }
 
 // Of what is told and lent, the first number that applies: 1 to 5, or 0.
 fn refusal(m: Move, keeper: usize, letter: &[u8], random: &[u16], tray: &[u8]) -> u32
-    ensures { result ≡ cutRefusal m keeper letter.now random.now tray.now }
+    ensures { result ≡ cut_refusal m keeper letter.now random.now tray.now }
 {
     let number = move_number(m, has_keeper(m.old, keeper));
     if number != 0 {
@@ -49,7 +49,7 @@ fn refusal(m: Move, keeper: usize, letter: &[u8], random: &[u16], tray: &[u8]) -
 
 // A good letter against what was told: 16, 20, or 0.
 fn old_number(m: Move, keeper: usize, h: Head) -> u32
-    ensures { result ≡ oldNumber m keeper h }
+    ensures { result ≡ old_number m keeper h }
 {
     if !head::same(h, head_for(old_told(m), h.stamp, m.length, keeper)) {
         return 16;
@@ -58,7 +58,7 @@ fn old_number(m: Move, keeper: usize, h: Head) -> u32
 }
 
 fn judge(m: Move, keeper: usize, letter: &[u8]) -> Cutting
-    ensures { (result.number ≡ oldLetter m keeper (read_of letter.now)) × (result.place ≡ place_of (read_of letter.now)) }
+    ensures { (result.number ≡ old_letter m keeper (read_of letter.now)) × (result.place ≡ place_of (read_of letter.now)) }
 {
     match read(letter) {
         Reading::Good(h) => Cutting {
@@ -74,7 +74,7 @@ fn write_subs(m: Move, from: u16, rows: &[u16], tray: &mut [u8])
     requires fact_1 { MoveTerms m }
     requires fact_2 { length rows.now ≡ m.length * m.told.order.n }
     requires fact_3 { length tray.old ≡ 2048 * m.told.order.n }
-    ensures { tray.new ≡ pieces (λ k. slotBytes 82 from (headFor m.told m.stamp m.length (suc k)) (row_of rows.now m.length (suc k))) m.told.order.n }
+    ensures { tray.new ≡ pieces (λ k. slot_bytes 82 from (head_for m.told m.stamp m.length (suc k)) (row_of rows.now m.length (suc k))) m.told.order.n }
 {
     let l = m.length;
     let n = m.told.order.n;
@@ -103,10 +103,10 @@ fn fill(
     rows: &mut [u16],
     tray: &mut [u8],
 )
-    requires fact_1 { moveCutNumber m keeper letter.now random.now tray.old ≡ 0 }
+    requires fact_1 { move_cut_number m keeper letter.now random.now tray.old ≡ 0 }
     requires fact_2 { length row.old ≡ m.length }
     requires fact_3 { length rows.old ≡ m.length * m.told.order.n }
-    ensures { tray.new ≡ subTray mod257 m.told m.stamp keeper (shares_of letter.now m.length) random.now }
+    ensures { tray.new ≡ sub_tray mod257 m.told m.stamp keeper (shares_of letter.now m.length) random.now }
 {
     take_shares(letter, row);
     words::cut(m.told.order, row, random, rows);

@@ -1,6 +1,6 @@
 // What both calls of a move are told.
 ghost use Rattle.std.specs.Prelude.{◌≡◌};
-ghost use Rattle.moving.specs.Move.{oldTold, moveNumber};
+ghost use Rattle.moving.specs.Move.{old_told, move_number};
 
 use header::order;
 use header::order::Order;
@@ -18,7 +18,7 @@ pub struct Move {
 
 // What the old letters are of.
 pub fn old_told(m: Move) -> Told
-    ensures { result ≡ oldTold m }
+    ensures { result ≡ old_told m }
 {
     let order = m.old;
     let told = m.told;
@@ -30,7 +30,7 @@ pub fn old_told(m: Move) -> Told
 
 // 1, 2 or 3 of what is told, where `keepers` says whether the keepers told of are in their orders; else 0.
 pub fn move_number(m: Move, keepers: bool) -> u32
-    ensures { result ≡ moveNumber m keepers }
+    ensures { result ≡ move_number m keepers }
 {
     if !order::lawful(m.old) {
         return 1;

@@ -8,32 +8,32 @@ use native.Mathlib.Omega.{arith}
 use lib.ListN.{length, get_or, take, drop, replicate, get_or-replicate}
 use lib.Seq.{take-append_seam, drop-append_seam, get_or-drop}
 use Rattle.lines.specs.Written.{Written}
-use Rattle.lists.specs.Zeros.{drop-zeros}
+use Rattle.lists.specs.Zeros.{drop_zeros}
 use Rattle.names.specs.Names.{Named, Closed}
 
-pub written-taken : {before whole out : List ℕ} {count : ℕ} → Written before 0 whole out count → take count out ≡ whole
-written-taken {before} {whole} {out} {count} w =
+pub written_taken : {before whole out : List ℕ} {count : ℕ} → Written before 0 whole out count → take count out ≡ whole
+written_taken {before} {whole} {out} {count} w =
     let e : count ≡ length whole = omega arith in
     rw (e, w.laid) (take-append_seam whole (drop (0 + length whole) before))
 
-pub written-named : {before whole out : List ℕ} {count : ℕ} → length whole ≤ 4095 → Written before 0 whole out count → Named whole out count
-written-named short w = record { fits = λ _. (omega arith, written-taken w); long = λ long. omega arith }
+pub written_named : {before whole out : List ℕ} {count : ℕ} → length whole ≤ 4095 → Written before 0 whole out count → Named whole out count
+written_named short w = record { fits = λ _. (omega arith, written_taken w); long = λ long. omega arith }
 
-pub long-named : {whole : List ℕ} (out : List ℕ) → 4095 < length whole → Named whole out 0
-long-named out long = record { fits = λ short. absurd (omega arith); long = λ _. refl }
+pub long_named : {whole : List ℕ} (out : List ℕ) → 4095 < length whole → Named whole out 0
+long_named out long = record { fits = λ short. absurd (omega arith); long = λ _. refl }
 
 -- laid over zeros it has zeros behind it
-pub written-closed : {whole out : List ℕ} {count : ℕ} → Written (replicate 4096 0) 0 whole out count → length whole ≤ 4095 → Closed whole out
-written-closed {whole} {out} w short =
+pub written_closed : {whole out : List ℕ} {count : ℕ} → Written (replicate 4096 0) 0 whole out count → length whole ≤ 4095 → Closed whole out
+written_closed {whole} {out} w short =
     let rest = drop {A = ℕ} (0 + length whole) (replicate 4096 0) in
-    let zeros : rest ≡ replicate (4096 - length whole) 0 = rw zero-add (drop-zeros (length whole) 4096) in
+    let zeros : rest ≡ replicate (4096 - length whole) 0 = rw zero-add (drop_zeros (length whole) 4096) in
     record {
       fits = λ _. (rw w.laid (take-append_seam whole rest), rw w.laid (drop-append_seam whole rest ∙ zeros));
       long = λ long. absurd (omega arith);
     }
 
-pub closed-last : {whole out : List ℕ} → length whole ≤ 4095 → Closed whole out → get_or out 4095 1 ≡ 0
-closed-last {whole} {out} short closed =
+pub closed_last : {whole out : List ℕ} → length whole ≤ 4095 → Closed whole out → get_or out 4095 1 ≡ 0
+closed_last {whole} {out} short closed =
     let at = length whole in
     let left = 4095 - at in
     let e : at + left ≡ 4095 = omega arith in

@@ -2,15 +2,15 @@
 -- And as lists: 1,3,12 is one of three numbers, and is none where only two are taken; a part that is empty is no number.
 -- Assumes nothing.
 use Rattle.std.specs.Prelude.{◌≡◌, refl, true, false, List, [], ◌∷◌, ℕ}
-use Rattle.numerals.specs.Numeral.{allDigits, saidAfter, said, is_number}
-use Rattle.numerals.specs.Several.{onto, parts, allNumbers, isList, listed}
+use Rattle.numerals.specs.Numeral.{all_digits, said_after, said, is_number}
+use Rattle.numerals.specs.Several.{onto, parts, all_numbers, is_list, listed}
 
 largest : (is_number (52 ∷ 50 ∷ 57 ∷ 52 ∷ 57 ∷ 54 ∷ 55 ∷ 50 ∷ 57 ∷ 53 ∷ []) ≡ true) × (said (52 ∷ 50 ∷ 57 ∷ 52 ∷ 57 ∷ 54 ∷ 55 ∷ 50 ∷ 57 ∷ 53 ∷ []) ≡ 4294967295)
-unfolding allDigits saidAfter
+unfolding all_digits said_after
 largest = (refl, refl)
 
 too_large : is_number (52 ∷ 50 ∷ 57 ∷ 52 ∷ 57 ∷ 54 ∷ 55 ∷ 50 ∷ 57 ∷ 54 ∷ []) ≡ false
-unfolding allDigits saidAfter
+unfolding all_digits said_after
 too_large = refl
 
 too_long : is_number (48 ∷ 48 ∷ 48 ∷ 48 ∷ 48 ∷ 48 ∷ 48 ∷ 48 ∷ 48 ∷ 48 ∷ 49 ∷ []) ≡ false
@@ -19,14 +19,14 @@ too_long = refl
 nothing : is_number [] ≡ false
 nothing = refl
 
-three : (isList 8 (49 ∷ 44 ∷ 51 ∷ 44 ∷ 49 ∷ 50 ∷ []) ≡ true) × (listed (49 ∷ 44 ∷ 51 ∷ 44 ∷ 49 ∷ 50 ∷ []) ≡ 1 ∷ 3 ∷ 12 ∷ [])
-unfolding onto parts allNumbers allDigits saidAfter
+three : (is_list 8 (49 ∷ 44 ∷ 51 ∷ 44 ∷ 49 ∷ 50 ∷ []) ≡ true) × (listed (49 ∷ 44 ∷ 51 ∷ 44 ∷ 49 ∷ 50 ∷ []) ≡ 1 ∷ 3 ∷ 12 ∷ [])
+unfolding onto parts all_numbers all_digits said_after
 three = (refl, refl)
 
-one-too-many : isList 2 (49 ∷ 44 ∷ 51 ∷ 44 ∷ 49 ∷ 50 ∷ []) ≡ false
+one_too_many : is_list 2 (49 ∷ 44 ∷ 51 ∷ 44 ∷ 49 ∷ 50 ∷ []) ≡ false
 unfolding onto parts
-one-too-many = refl
+one_too_many = refl
 
-part-empty : (isList 8 (49 ∷ 44 ∷ 44 ∷ 51 ∷ []) ≡ false) × (isList 8 (49 ∷ 44 ∷ []) ≡ false) × (isList 8 [] ≡ false)
-unfolding onto parts allNumbers allDigits saidAfter
-part-empty = (refl, refl, refl)
+part_empty : (is_list 8 (49 ∷ 44 ∷ 44 ∷ 51 ∷ []) ≡ false) × (is_list 8 (49 ∷ 44 ∷ []) ≡ false) × (is_list 8 [] ≡ false)
+unfolding onto parts all_numbers all_digits said_after
+part_empty = (refl, refl, refl)

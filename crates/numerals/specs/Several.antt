@@ -14,13 +14,13 @@ parts [] = [] ∷ []
 parts (byte ∷ more) = cond (eqb byte 44) ([] ∷ parts more) (onto byte (parts more))
 
 -- whether all of some words are numbers
-unfoldable pub allNumbers : List (List ℕ) → Bool
-allNumbers [] = true
-allNumbers (word ∷ more) = is_number word && allNumbers more
+unfoldable pub all_numbers : List (List ℕ) → Bool
+all_numbers [] = true
+all_numbers (word ∷ more) = is_number word && all_numbers more
 
 -- "one or more numbers, at most so many, with commas between"
-abbrev pub isList : ℕ → List ℕ → Bool
-isList most word = leb (length (parts word)) most && allNumbers (parts word)
+abbrev pub is_list : ℕ → List ℕ → Bool
+is_list most word = leb (length (parts word)) most && all_numbers (parts word)
 
 -- the numbers that such a word says
 abbrev pub listed : List ℕ → List ℕ
@@ -29,7 +29,7 @@ listed word = map said (parts word)
 -- A word is read as its numbers, which stand at the room's start, or as none. The last two parts say that the room has them: for whoever lends that start
 -- alone.
 pub record ListRead (word : List ℕ) (most : ℕ) (room : List ℕ) (count : ℕ) : Type 0 where
-  pub many : count ≡ cond (isList most word) (length (parts word)) 0
-  pub values : take count room ≡ cond (isList most word) (listed word) []
+  pub many : count ≡ cond (is_list most word) (length (parts word)) 0
+  pub values : take count room ≡ cond (is_list most word) (listed word) []
   pub within : count ≤ length room
   pub front : count ≡ length (take count room)

@@ -12,7 +12,7 @@ use Rattle.std.proofs.Math.Seq.{take-suc-set}
 use borrow.Author.Tests.{eq-eqb, ne_eqb, le-leb, lt-leb}
 use Rattle.numerals.specs.Numeral.{said, is_number, NumberRead}
 use Rattle.numerals.specs.OrderLaws.{FirstComma}
-use Rattle.numerals.specs.Several.{onto, parts, allNumbers, isList, listed, ListRead}
+use Rattle.numerals.specs.Several.{onto, parts, all_numbers, is_list, listed, ListRead}
 use Rattle.numerals.specs.declared.list.Part.{Part}
 use Rattle.numerals.specs.declared.read.Number.{Number}
 
@@ -26,19 +26,19 @@ later h =
     }
 
 -- a word with a comma: its first part, and those of what stands behind it
-split-more : (word : List ℕ) (at : ℕ) → FirstComma word at → at < length word → parts word ≡ take at word ∷ parts (drop (suc at) word)
+split_more : (word : List ℕ) (at : ℕ) → FirstComma word at → at < length word → parts word ≡ take at word ∷ parts (drop (suc at) word)
 unfolding parts onto
-split-more [] at h l = absurd (not-suc-le-zero l)
-split-more (x ∷ xs) zero h l = rw (eq-eqb x 44 (h.found l))
-split-more (x ∷ xs) (suc at) h l = rw (ne_eqb x 44 (h.before 0 (omega arith)), split-more xs at (later h) (le_of_suc-le-suc l))
+split_more [] at h l = absurd (not-suc-le-zero l)
+split_more (x ∷ xs) zero h l = rw (eq-eqb x 44 (h.found l))
+split_more (x ∷ xs) (suc at) h l = rw (ne_eqb x 44 (h.before 0 (omega arith)), split_more xs at (later h) (le_of_suc-le-suc l))
 
 -- a word with none is its only part
-split-last : (word : List ℕ) (at : ℕ) → FirstComma word at → at ≡ length word → parts word ≡ take at word ∷ []
+split_last : (word : List ℕ) (at : ℕ) → FirstComma word at → at ≡ length word → parts word ≡ take at word ∷ []
 unfolding parts onto
-split-last [] zero h e = refl
-split-last [] (suc at) h e = absurd (not-suc-le-zero h.within)
-split-last (x ∷ xs) zero h e = absurd (omega arith)
-split-last (x ∷ xs) (suc at) h e = rw (ne_eqb x 44 (h.before 0 (omega arith)), split-last xs at (later h) (omega arith))
+split_last [] zero h e = refl
+split_last [] (suc at) h e = absurd (not-suc-le-zero h.within)
+split_last (x ∷ xs) zero h e = absurd (omega arith)
+split_last (x ∷ xs) (suc at) h e = rw (ne_eqb x 44 (h.before 0 (omega arith)), split_last xs at (later h) (omega arith))
 
 -- the part that begins at a place, and what stands behind it
 pub record PartRead (word : List ℕ) (from : ℕ) (r : Part) : Type 0 where
@@ -49,9 +49,9 @@ pub record PartRead (word : List ℕ) (from : ℕ) (r : Part) : Type 0 where
   pub more : r.end < length word → parts (drop from word) ≡ take (r.end - from) (drop from word) ∷ parts (drop (r.end + 1) word)
   pub last : r.end ≡ length word → parts (drop from word) ≡ take (r.end - from) (drop from word) ∷ []
 
-pub part-read : {word : List ℕ} {from at end : ℕ} {read : Number} → from ≤ length word → FirstComma (drop from word) at → end ≡ from + at
+pub part_read : {word : List ℕ} {from at end : ℕ} {read : Number} → from ≤ length word → FirstComma (drop from word) at → end ≡ from + at
     → NumberRead (take (end - from) (drop from word)) read → PartRead word from (record { right = read.right; value = read.value; end = end })
-part-read {word} {from} {at} {end} {read} l h e n =
+part_read {word} {from} {at} {end} {read} l h e n =
     let size = length-drop from word in
     let long : end - from ≡ at = omega arith in
     record {
@@ -59,52 +59,52 @@ part-read {word} {from} {at} {end} {read} l h e n =
       within = omega (arith, h.within);
       right = n.right;
       value = λ t. n.value ∙ rw (sym n.right ∙ t);
-      more = λ g. rw (long, e, add-one, ← add-suc, ← drop-drop) (split-more (drop from word) at h (omega arith));
-      last = λ g. rw long (split-last (drop from word) at h (omega arith));
+      more = λ g. rw (long, e, add-one, ← add-suc, ← drop-drop) (split_more (drop from word) at h (omega arith));
+      last = λ g. rw long (split_last (drop from word) at h (omega arith));
     }
 
 -- there is always a part
-part-some : (b : Bool) (x : ℕ) (ps : List (List ℕ)) → 1 ≤ length (cond b ([] ∷ ps) (onto x ps))
+part_some : (b : Bool) (x : ℕ) (ps : List (List ℕ)) → 1 ≤ length (cond b ([] ∷ ps) (onto x ps))
 unfolding onto
-part-some true x ps = omega arith
-part-some false x [] = omega arith
-part-some false x (p ∷ ps) = omega arith
+part_some true x ps = omega arith
+part_some false x [] = omega arith
+part_some false x (p ∷ ps) = omega arith
 
-parts-some : (word : List ℕ) → 1 ≤ length (parts word)
+parts_some : (word : List ℕ) → 1 ≤ length (parts word)
 unfolding parts
-parts-some [] = omega arith
-parts-some (x ∷ xs) = part-some (eqb x 44) x (parts xs)
+parts_some [] = omega arith
+parts_some (x ∷ xs) = part_some (eqb x 44) x (parts xs)
 
 -- the parts in front of a place are numbers, and stand in the room
 pub record Going (word room : List ℕ) (from count : ℕ) : Type 0 where
   pub within : from ≤ length word
   pub small : count ≤ length room
-  pub passed : allNumbers (parts word) ≡ allNumbers (parts (drop from word))
+  pub passed : all_numbers (parts word) ≡ all_numbers (parts (drop from word))
   pub many : length (parts word) ≡ count + length (parts (drop from word))
   pub told : listed word ≡ take count room ++ listed (drop from word)
 
-pub going-none : (word room : List ℕ) → Going word room 0 0
-going-none word room = record { within = omega arith; small = omega arith; passed = refl; many = omega arith; told = refl }
+pub going_none : (word room : List ℕ) → Going word room 0 0
+going_none word room = record { within = omega arith; small = omega arith; passed = refl; many = omega arith; told = refl }
 
 -- a word that is no list is read as none
-pub list-none : {word room : List ℕ} {most : ℕ} → isList most word ≡ false → ListRead word most room 0
-list-none e = record { many = rw e; values = rw e; within = omega arith; front = refl }
+pub list_none : {word room : List ℕ} {most : ℕ} → is_list most word ≡ false → ListRead word most room 0
+list_none e = record { many = rw e; values = rw e; within = omega arith; front = refl }
 
 module _ {word room : List ℕ} {from count : ℕ} (h : Going word room from count) where
   -- more parts than there is room for
-  pub list_full : length room ≤ count → isList (length room) word ≡ false
-  list_full l = rw (lt-leb (length (parts word)) (length room) (omega (arith, h.many, parts-some (drop from word))))
+  pub list_full : length room ≤ count → is_list (length room) word ≡ false
+  list_full l = rw (lt-leb (length (parts word)) (length room) (omega (arith, h.many, parts_some (drop from word))))
 
   module _ {r : Part} (p : PartRead word from r) where
     -- the next part, with whatever follows it
-    first_of : {ps : List (List ℕ)} → parts (drop from word) ≡ take (r.end - from) (drop from word) ∷ ps → allNumbers (parts word) ≡ (r.right && allNumbers ps)
-    unfolding allNumbers
+    first_of : {ps : List (List ℕ)} → parts (drop from word) ≡ take (r.end - from) (drop from word) ∷ ps → all_numbers (parts word) ≡ (r.right && all_numbers ps)
+    unfolding all_numbers
     first_of e = h.passed ∙ rw (e, ← p.right)
 
     -- a part that is no number
-    pub list-wrong : (most : ℕ) → r.right ≡ false → isList most word ≡ false
-    list-wrong most e =
-        let none : allNumbers (parts word) ≡ false =
+    pub list_wrong : (most : ℕ) → r.right ≡ false → is_list most word ≡ false
+    list_wrong most e =
+        let none : all_numbers (parts word) ≡ false =
         by_cases (dec_le (length word) r.end) (λ l. first_of (p.last (omega (arith, p.within))) ∙ rw e) (λ l. first_of (p.more (omega arith)) ∙ rw e) in
         rw (none, and-false)
 
@@ -122,14 +122,14 @@ module _ {word room : List ℕ} {from count : ℕ} (h : Going word room from cou
           }
 
       -- the last one
-      pub list-last : r.end ≡ length word → ListRead word (length room) (set room count r.value) (count + 1)
-      unfolding allNumbers
-      list-last g =
+      pub list_last : r.end ≡ length word → ListRead word (length room) (set room count r.value) (count + 1)
+      unfolding all_numbers
+      list_last g =
           let e = p.last g in
           let many : length (parts word) ≡ count + 1 = omega (arith, h.many, ap length e) in
-          let all : allNumbers (parts word) ≡ true = first_of e ∙ rw t in
+          let all : all_numbers (parts word) ≡ true = first_of e ∙ rw t in
           let fits : count + 1 ≤ length (set room count r.value) = rw length-set (omega arith) in
-          let some : isList (length room) word ≡ true = rw (all, le-leb (length (parts word)) (length room) (omega arith)) in
+          let some : is_list (length room) word ≡ true = rw (all, le-leb (length (parts word)) (length room) (omega arith)) in
           record {
             many = rw (some, many);
             values = rw (some, h.told, e, add-one count, take-suc-set room count r.value l, p.value t);

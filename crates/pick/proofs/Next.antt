@@ -10,11 +10,11 @@ use lib.ListN.{get_or}
 use borrow.Author.Count.{below_more}
 use borrow.Author.Tests.{ltb-true, ltb-false, leb-true, lt-ltb, le-leb}
 use Rattle.header.specs.Passing.{and_left, and_right}
-use Rattle.pick.specs.Ranks.{size_of, comesNext, NextOf}
+use Rattle.pick.specs.Ranks.{size_of, comes_next, NextOf}
 
-first-fails : (a b : Bool) → (a && b) ≡ false → b ≡ true → a ≡ false
-first-fails false b e passes = refl
-first-fails true b e passes = sym passes ∙ e
+first_fails : (a b : Bool) → (a && b) ≡ false → b ≡ true → a ≡ false
+first_fails false b e passes = refl
+first_fails true b e passes = sym passes ∙ e
 
 -- of n places, those before k are seen
 pub record NextTo (ranks : List ℕ) (n least bound : ℕ) (best k : ℕ) : Type 0 where
@@ -23,29 +23,29 @@ pub record NextTo (ranks : List ℕ) (n least bound : ℕ) (best k : ℕ) : Type
   pub large : 1 ≤ best → (best < bound) × (least ≤ size_of ranks n best)
 
 module _ {ranks : List ℕ} {n least bound : ℕ} where
-  pub next-none : NextTo ranks n least bound 0 0
-  next-none = record { reached = omega arith; most = λ j l. absurd (omega arith); large = λ some. absurd (omega arith) }
+  pub next_none : NextTo ranks n least bound 0 0
+  next_none = record { reached = omega arith; most = λ j l. absurd (omega arith); large = λ some. absurd (omega arith) }
 
   module _ {best k : ℕ} (before : NextTo ranks n least bound best k) where
-    pub next-all : n ≤ k → NextOf ranks n least bound best
-    next-all past = record { most = λ j l. before.most j (omega arith); large = before.large }
+    pub next_all : n ≤ k → NextOf ranks n least bound best
+    next_all past = record { most = λ j l. before.most j (omega arith); large = before.large }
 
     module _ (within : k < n) where
-      pub next-kept : comesNext ranks n least bound (get_or ranks k 0) best ≡ false → NextTo ranks n least bound best (k + 1)
-      unfolding comesNext
-      next-kept stays =
+      pub next_kept : comes_next ranks n least bound (get_or ranks k 0) best ≡ false → NextTo ranks n least bound best (k + 1)
+      unfolding comes_next
+      next_kept stays =
           let rank = get_or ranks k 0 in
           record {
             reached = omega arith;
             most =
                 below_more (λ j. get_or ranks j 0 < bound → least ≤ size_of ranks n (get_or ranks j 0) → get_or ranks j 0 ≤ best) k before.most
                 (λ below many.
-                ltb-false best rank (first-fails _ _ stays (rw (lt-ltb rank bound below, le-leb least (size_of ranks n rank) many))));
+                ltb-false best rank (first_fails _ _ stays (rw (lt-ltb rank bound below, le-leb least (size_of ranks n rank) many))));
             large = before.large;
           }
 
-      pub next_more : comesNext ranks n least bound (get_or ranks k 0) best ≡ true → NextTo ranks n least bound (get_or ranks k 0) (k + 1)
-      unfolding comesNext
+      pub next_more : comes_next ranks n least bound (get_or ranks k 0) best ≡ true → NextTo ranks n least bound (get_or ranks k 0) (k + 1)
+      unfolding comes_next
       next_more comes =
           let rank = get_or ranks k 0 in
           let size = size_of ranks n rank in

@@ -5,10 +5,10 @@ use Rattle.lists.specs.Count.{count}
 use Rattle.lists.specs.From.{from}
 use Rattle.header.specs.declared.told.Told.{Told}
 use Rattle.header.specs.declared.head.Head.{Head}
-use Rattle.header.specs.Head.{lawfulHead, sameHead, headOf}
+use Rattle.header.specs.Head.{lawful_head, same_head, head_of}
 use Rattle.header.specs.TermsLaws.{TermsFacts}
-use Rattle.format.specs.Reading.{blockWords}
-use Rattle.tray.specs.Tray.{headFor, slot_of}
+use Rattle.format.specs.Reading.{block_words}
+use Rattle.tray.specs.Tray.{head_for, slot_of}
 use Rattle.pick.specs.declared.Picked.{Picked}
 use Rattle.pick.specs.Pick.{picked}
 
@@ -16,23 +16,23 @@ use Rattle.pick.specs.Pick.{picked}
 abbrev pub rank_of : ℕ → ℕ → ℕ
 rank_of stamp l = stamp * 1024 + l
 
-abbrev pub stampIn : ℕ → ℕ
-stampIn rank = rank / 1024
+abbrev pub stamp_in : ℕ → ℕ
+stamp_in rank = rank / 1024
 
-abbrev pub lengthIn : ℕ → ℕ
-lengthIn rank = rank % 1024
+abbrev pub length_in : ℕ → ℕ
+length_in rank = rank % 1024
 
 -- whether a letter of the order and key, and of keeper x, may have this head
-unfoldable pub mayHave : Told → ℕ → Head → Bool
-mayHave told x h = lawfulHead h && sameHead h (headFor told h.stamp h.length x)
+unfoldable pub may_have : Told → ℕ → Head → Bool
+may_have told x h = lawful_head h && same_head h (head_for told h.stamp h.length x)
 
 -- the rank of such a head; 0 of any other
-abbrev pub rankSaid : Told → ℕ → Head → ℕ
-rankSaid told x h = cond (mayHave told x h) (rank_of h.stamp h.length) 0
+abbrev pub rank_said : Told → ℕ → Head → ℕ
+rank_said told x h = cond (may_have told x h) (rank_of h.stamp h.length) 0
 
 -- the rank that the slot of keeper k + 1 says, whether or not the letter is good
 unfoldable pub rank_at : Told → List ℕ → ℕ → ℕ
-rank_at told tray k = rankSaid told (k + 1) (headOf (blockWords (slot_of tray (k + 1)) 0))
+rank_at told tray k = rank_said told (k + 1) (head_of (block_words (slot_of tray (k + 1)) 0))
 
 pub record RanksOf (told : Told) (tray ranks : List ℕ) : Type 0 where
   pub at : (k : ℕ) → k < told.order.n → get_or ranks k 0 ≡ rank_at told tray k
@@ -42,8 +42,8 @@ unfoldable pub size_of : List ℕ → ℕ → ℕ → ℕ
 size_of ranks n rank = count (λ x. eqb (get_or ranks (x - 1) 0) rank) (from 1 n)
 
 -- whether a rank below a bound comes after another and its group is at least so large
-unfoldable pub comesNext : List ℕ → ℕ → ℕ → ℕ → ℕ → ℕ → Bool
-comesNext ranks n least bound rank best = ltb best rank && (ltb rank bound && leb least (size_of ranks n rank))
+unfoldable pub comes_next : List ℕ → ℕ → ℕ → ℕ → ℕ → ℕ → Bool
+comes_next ranks n least bound rank best = ltb best rank && (ltb rank bound && leb least (size_of ranks n rank))
 
 -- the greatest of the first n ranks below a bound whose group is at least so large; 0 where there is none
 pub record NextOf (ranks : List ℕ) (n least bound best : ℕ) : Type 0 where
@@ -52,13 +52,13 @@ pub record NextOf (ranks : List ℕ) (n least bound best : ℕ) : Type 0 where
 
 -- a rank of a lawful stamp and length, and a tray of a slot for each keeper
 pub record Joinable (told : Told) (tray : List ℕ) (rank : ℕ) : Type 0 where
-  pub terms : TermsFacts told (stampIn rank) (lengthIn rank)
+  pub terms : TermsFacts told (stamp_in rank) (length_in rank)
   pub slots : length tray ≡ 2048 * told.order.n
 
 -- whether a group that was tried is the first large one, by the number answered so far
-abbrev pub isFirst : ℕ → ℕ → Bool
-isFirst number tried = eqb number 6 && not (eqb tried 6)
+abbrev pub is_first : ℕ → ℕ → Bool
+is_first number tried = eqb number 6 && not (eqb tried 6)
 
 -- a number, with the stamp and the length of a rank
 abbrev pub answer_of : ℕ → ℕ → Picked
-answer_of number rank = picked number (stampIn rank) (lengthIn rank)
+answer_of number rank = picked number (stamp_in rank) (length_in rank)

@@ -1,6 +1,6 @@
 // The groups that ranks tell of: how large each is, and which comes next.
 ghost use Rattle.std.specs.Prelude.{◌≡◌, ◌≤◌, length};
-ghost use Rattle.pick.specs.Ranks.{size_of, comesNext, NextOf};
+ghost use Rattle.pick.specs.Ranks.{size_of, comes_next, NextOf};
 
 // The size of a rank's group: how many of the first n ranks it is.
 fn group_size(ranks: &[u64], n: usize, rank: u64) -> usize
@@ -21,7 +21,7 @@ fn group_size(ranks: &[u64], n: usize, rank: u64) -> usize
 // Whether a rank below a bound comes after another and its group is at least so large.
 fn comes_next(ranks: &[u64], n: usize, least: usize, bound: u64, rank: u64, best: u64) -> bool
     requires { n ≤ length ranks.now }
-    ensures { result ≡ comesNext ranks.now n least bound rank best }
+    ensures { result ≡ comes_next ranks.now n least bound rank best }
 {
     best < rank && (rank < bound && least <= group_size(ranks, n, rank))
 }

@@ -2,8 +2,8 @@
 ghost use Rattle.std.specs.Prelude.{◌≡◌, ◌<◌, ◌≤◌, length};
 ghost use Rattle.field.specs.Modulo.{mod257};
 ghost use Rattle.agree.specs.Rows.{Rows};
-ghost use Rattle.pick.specs.Ranks.{stampIn, lengthIn, Joinable, isFirst, RanksOf, answer_of};
-ghost use Rattle.pick.specs.Pick.{pickRefusal, JoinGives, PickDone};
+ghost use Rattle.pick.specs.Ranks.{stamp_in, length_in, Joinable, is_first, RanksOf, answer_of};
+ghost use Rattle.pick.specs.Pick.{pick_refusal, JoinGives, PickDone};
 
 use crate::groups::next_of;
 use crate::ranks::gather;
@@ -22,7 +22,7 @@ pub struct Picked {
 }
 
 fn refusal(told: Told, tray: &[u8]) -> u32
-    ensures { result ≡ pickRefusal told tray.now }
+    ensures { result ≡ pick_refusal told tray.now }
 {
     if told::lawful(told) {
         if tray.len() == 2048 * told.order.n {
@@ -51,7 +51,7 @@ fn answer(number: u32, rank: u64) -> Picked
 fn joined(told: Told, tray: &[u8], rank: u64, rows: &mut [u16]) -> u32
     requires fact_1 { Joinable told tray.now rank }
     requires fact_2 { Rows rows.old }
-    ensures { JoinGives mod257 told tray.now (stampIn rank) (lengthIn rank) result × Rows rows.new }
+    ensures { JoinGives mod257 told tray.now (stamp_in rank) (length_in rank) result × Rows rows.new }
 {
     let mut room = [0u8; 952];
     let l = (rank % 1024) as usize;
@@ -61,7 +61,7 @@ fn joined(told: Told, tray: &[u8], rank: u64, rows: &mut [u16]) -> u32
 
 // Whether a group that was tried is the first large one, by the number answered so far: 6, as long as there was none.
 fn is_first(number: u32, tried: u32) -> bool
-    ensures { result ≡ isFirst number tried }
+    ensures { result ≡ is_first number tried }
 {
     number == 6 && tried != 6
 }
@@ -69,7 +69,7 @@ fn is_first(number: u32, tried: u32) -> bool
 // Goes down the groups that the ranks tell of, to the first that joins. Where none does, the answer is of the first that is large: the join of one that
 // is not says 6.
 fn go_down(told: Told, tray: &[u8], ranks: &[u64], rows: &mut [u16]) -> Picked
-    requires fact_1 { pickRefusal told tray.now ≡ 0 }
+    requires fact_1 { pick_refusal told tray.now ≡ 0 }
     requires fact_2 { RanksOf told tray.now ranks.now }
     requires fact_3 { told.order.n ≤ length ranks.now }
     requires fact_4 { Rows rows.old }

@@ -1,8 +1,8 @@
 // The rank of a letter: its stamp and its length as one number. A greater stamp has a greater rank, and of one stamp a greater length.
 ghost use Rattle.std.specs.Prelude.{◌≡◌, ◌*◌, ◌≤◌, length};
-ghost use Rattle.header.specs.Head.{headOf};
-ghost use Rattle.format.specs.Reading.{blockWords};
-ghost use Rattle.pick.specs.Ranks.{rank_of, mayHave, rankSaid, RanksOf};
+ghost use Rattle.header.specs.Head.{head_of};
+ghost use Rattle.format.specs.Reading.{block_words};
+ghost use Rattle.pick.specs.Ranks.{rank_of, may_have, rank_said, RanksOf};
 
 use header::head;
 use header::head::{Head, head_of};
@@ -18,7 +18,7 @@ fn rank_of(stamp: u32, l: usize) -> u64
 
 // Whether a letter of the order and key, and of keeper x, may have this head.
 fn may_have(told: Told, x: usize, h: Head) -> bool
-    ensures { result ≡ mayHave told x h }
+    ensures { result ≡ may_have told x h }
 {
     head::lawful(h) && head::same(h, head_for(told, h.stamp, h.length, x))
 }
@@ -27,7 +27,7 @@ fn may_have(told: Told, x: usize, h: Head) -> bool
 // is not read.
 fn rank_in(slot: &[u8], told: Told, x: usize) -> u64
     requires { length slot.now ≡ 2048 }
-    ensures { result ≡ rankSaid told x (headOf (blockWords slot.now 0)) }
+    ensures { result ≡ rank_said told x (head_of (block_words slot.now 0)) }
 {
     let h = head_of(&slot[..512]);
     if may_have(told, x, h) {

@@ -5,52 +5,52 @@ use Rattle.std.proofs.Common.{sym, ap, ◌∙◌, append_assoc, arith}
 use Rattle.std.specs.Int.Count.{ones}
 use Rattle.lists.specs.Member.{below_in}
 use Rattle.field.specs.Modulo.{mod257}
-use Rattle.block.specs.AtMostLaws.{at-most-below}
-use Rattle.block.specs.Check.{allAtMost}
-use Rattle.lines.specs.Lines.{keyLine, countLine, answerLine}
+use Rattle.block.specs.AtMostLaws.{at_most_below}
+use Rattle.block.specs.Check.{all_at_most}
+use Rattle.lines.specs.Lines.{key_line, count_line, answer_line}
 use Rattle.header.specs.declared.told.Told.{Told}
-use Rattle.header.specs.Order.{lawfulOrder}
+use Rattle.header.specs.Order.{lawful_order}
 use Rattle.pick.specs.declared.Picked.{Picked}
 use Rattle.pick.specs.Pick.{PickDone}
-use Rattle.pick.specs.NumberLaws.{picked-number}
+use Rattle.pick.specs.NumberLaws.{picked_number}
 use Rattle.join.specs.declared.Joined.{Joined}
 use Rattle.join.specs.Join.{JoinDone}
 use Rattle.join.specs.Join as join
-use Rattle.join.specs.RefusalLaws.{refusal-most}
-use Rattle.report_text.specs.Report.{keeperLines, lines, order_in, toldIn, trayIn, shortNumber, ReportOf, short, unpicked, joined}
+use Rattle.join.specs.RefusalLaws.{refusal_most}
+use Rattle.report_text.specs.Report.{keeper_lines, lines, order_in, told_in, tray_in, short_number, ReportOf, short, unpicked, joined}
 
-join-number : {told : Told} {stamp l : ℕ} {tray room left : List ℕ} {result : Joined} → JoinDone mod257 told stamp l tray room result left → result.number ≤ 8
-join-number {told} {stamp} {l} {tray} {room} (join.refused h) = omega (arith, refusal-most told stamp l tray room)
-join-number (join.judged e (join.few h)) = omega arith
-join-number (join.judged e (join.apart h g)) = omega arith
-join-number (join.judged e (join.wide ps h g)) = omega arith
-join-number (join.judged e (join.joined ps h g)) = omega arith
+join_number : {told : Told} {stamp l : ℕ} {tray room left : List ℕ} {result : Joined} → JoinDone mod257 told stamp l tray room result left → result.number ≤ 8
+join_number {told} {stamp} {l} {tray} {room} (join.refused h) = omega (arith, refusal_most told stamp l tray room)
+join_number (join.judged e (join.few h)) = omega arith
+join_number (join.judged e (join.apart h g)) = omega arith
+join_number (join.judged e (join.wide ps h g)) = omega arith
+join_number (join.judged e (join.joined ps h g)) = omega arith
 
-pick-number : {told : Told} {tray : List ℕ} {p : Picked} → PickDone mod257 told tray p → p.number ≤ 8
-unfolding allAtMost
-pick-number {p = p} D =
+pick_number : {told : Told} {tray : List ℕ} {p : Picked} → PickDone mod257 told tray p → p.number ≤ 8
+unfolding all_at_most
+pick_number {p = p} D =
     let numbers : List ℕ = 0 ∷ 1 ∷ 4 ∷ 6 ∷ 7 ∷ 8 ∷ [] in
-    omega (arith, below_in 9 numbers (at-most-below 8 numbers refl) p.number (picked-number D))
+    omega (arith, below_in 9 numbers (at_most_below 8 numbers refl) p.number (picked_number D))
 
-one-or-four : (test : Bool) → cond {A = ℕ} test 4 1 ≤ 8
-one-or-four true = omega arith
-one-or-four false = omega arith
+one_or_four : (test : Bool) → cond {A = ℕ} test 4 1 ≤ 8
+one_or_four true = omega arith
+one_or_four false = omega arith
 
-short-most : (input : List ℕ) → shortNumber input ≤ 8
-short-most input = one-or-four (ltb (length input) 3 || lawfulOrder (order_in input))
+short_most : (input : List ℕ) → short_number input ≤ 8
+short_most input = one_or_four (ltb (length input) 3 || lawful_order (order_in input))
 
-pub number-most : {input bytes : List ℕ} {number : ℕ} → ReportOf input number bytes → number ≤ 8
-number-most {input} (short h) = short-most input
-number-most (unpicked p whole D e) = pick-number D
-number-most (joined p result left whole D e J) = join-number J
+pub number_most : {input bytes : List ℕ} {number : ℕ} → ReportOf input number bytes → number ≤ 8
+number_most {input} (short h) = short_most input
+number_most (unpicked p whole D e) = pick_number D
+number_most (joined p result left whole D e J) = join_number J
 
-ends-in : (a b c last : List ℕ) → (front : List ℕ) × (a ++ (b ++ (c ++ last)) ≡ front ++ last)
-ends-in a b c last = (a ++ (b ++ c), sym (append_assoc a (b ++ c) last ∙ ap (a ++◌) (append_assoc b c last)))
+ends_in : (a b c last : List ℕ) → (front : List ℕ) × (a ++ (b ++ (c ++ last)) ≡ front ++ last)
+ends_in a b c last = (a ++ (b ++ c), sym (append_assoc a (b ++ c) last ∙ ap (a ++◌) (append_assoc b c last)))
 
 -- a report's last line says its number
-pub last_line : {input bytes : List ℕ} {number : ℕ} → ReportOf input number bytes → (front : List ℕ) × (bytes ≡ front ++ answerLine number)
+pub last_line : {input bytes : List ℕ} {number : ℕ} → ReportOf input number bytes → (front : List ℕ) × (bytes ≡ front ++ answer_line number)
 unfolding lines
 last_line (short h) = ([], refl)
 last_line (unpicked p whole D e) = ([], refl)
 last_line {input} (joined p result left whole D e J) =
-    ends-in (keyLine (toldIn input).key p.stamp p.length) (keeperLines (toldIn input) (trayIn input) p.stamp p.length result) (countLine result.usable result.need (ones result.set)) (answerLine result.number)
+    ends_in (key_line (told_in input).key p.stamp p.length) (keeper_lines (told_in input) (tray_in input) p.stamp p.length result) (count_line result.usable result.need (ones result.set)) (answer_line result.number)

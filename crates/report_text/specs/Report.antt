@@ -7,10 +7,10 @@ use Rattle.lists.specs.Pieces.{pieces}
 use Rattle.field.specs.Modulo.{mod257}
 use Rattle.lines.specs.declared.line.Standing.{Standing}
 use Rattle.lines.specs.declared.line.Standing.TheVariants.{Absent, Present, Agrees, Differs}
-use Rattle.lines.specs.Lines.{keyLine, keeperLine, countLine, answerLine, word_of}
+use Rattle.lines.specs.Lines.{key_line, keeper_line, count_line, answer_line, word_of}
 use Rattle.header.specs.declared.order.Order.{Order}
 use Rattle.header.specs.declared.told.Told.{Told}
-use Rattle.header.specs.Order.{lawfulOrder}
+use Rattle.header.specs.Order.{lawful_order}
 use Rattle.tray.specs.Tray.{usable}
 use Rattle.pick.specs.declared.Picked.{Picked}
 use Rattle.pick.specs.Pick.{PickDone}
@@ -23,47 +23,47 @@ abbrev pub standing : ℕ → Bool → Bool → Standing
 standing number isUsable matches = cond isUsable (cond (eqb number 7) Present (cond matches Agrees Differs)) Absent
 
 -- a line for each keeper, 1..n
-abbrev pub keeperLines : Told → List ℕ → ℕ → ℕ → Joined → List ℕ
-keeperLines told tray stamp l result =
-    pieces (λ k. keeperLine (suc k) (word_of (standing result.number (usable told stamp l tray (suc k)) (member result.set (suc k))))) told.order.n
+abbrev pub keeper_lines : Told → List ℕ → ℕ → ℕ → Joined → List ℕ
+keeper_lines told tray stamp l result =
+    pieces (λ k. keeper_line (suc k) (word_of (standing result.number (usable told stamp l tray (suc k)) (member result.set (suc k))))) told.order.n
 
 -- the lines of what was joined; "The size of the agreement is the number of ones in that set."
 unfoldable pub lines : Told → List ℕ → ℕ → ℕ → Joined → List ℕ
 lines told tray stamp l result =
-    keyLine told.key stamp l
-    ++ (keeperLines told tray stamp l result
-    ++ (countLine result.usable result.need (ones result.set)
-    ++ answerLine result.number))
+    key_line told.key stamp l
+    ++ (keeper_lines told tray stamp l result
+    ++ (count_line result.usable result.need (ones result.set)
+    ++ answer_line result.number))
 
 -- the numbers of the pick with which the lines of its group are written; "For any other number only the last line is written."
-abbrev pub hasLines : ℕ → Bool
-hasLines number = eqb number 0 || (eqb number 7 || eqb number 8)
+abbrev pub has_lines : ℕ → Bool
+has_lines number = eqb number 0 || (eqb number 7 || eqb number 8)
 
 -- "three bytes t, f, n"
 abbrev pub order_in : List ℕ → Order
 order_in input = record { t = get_or input 0 0; f = get_or input 1 0; n = get_or input 2 0 }
 
 -- "The report reads the key as a fourth byte, after n"
-abbrev pub toldIn : List ℕ → Told
-toldIn input = record { order = order_in input; key = get_or input 3 0 }
+abbrev pub told_in : List ℕ → Told
+told_in input = record { order = order_in input; key = get_or input 3 0 }
 
 -- "then the tray"
-abbrev pub trayIn : List ℕ → List ℕ
-trayIn input = drop 4 input
+abbrev pub tray_in : List ℕ → List ℕ
+tray_in input = drop 4 input
 
 -- "Fewer bytes or more are answer 4 (an unlawful order among three present bytes is 1)": of fewer than four bytes
-abbrev pub shortNumber : List ℕ → ℕ
-shortNumber input = cond (ltb (length input) 3 || lawfulOrder (order_in input)) 4 1
+abbrev pub short_number : List ℕ → ℕ
+short_number input = cond (ltb (length input) 3 || lawful_order (order_in input)) 4 1
 
 -- what the report of an input is, and its number, which the last line has: that of an input that is too short; then the pick, and the join of the
 -- group that it names
 pub data ReportOf (input : List ℕ) : ℕ → List ℕ → Type 0 where
-  short : length input < 4 → ReportOf input (shortNumber input) (answerLine (shortNumber input))
-  unpicked : (p : Picked) → 4 ≤ length input → PickDone mod257 (toldIn input) (trayIn input) p → hasLines p.number ≡ false
-      → ReportOf input p.number (answerLine p.number)
-  joined : (p : Picked) (result : Joined) (left : List ℕ) → 4 ≤ length input → PickDone mod257 (toldIn input) (trayIn input) p → hasLines p.number ≡ true
-      → JoinDone mod257 (toldIn input) p.stamp p.length (trayIn input) (replicate p.length 0) result left
-      → ReportOf input result.number (lines (toldIn input) (trayIn input) p.stamp p.length result)
+  short : length input < 4 → ReportOf input (short_number input) (answer_line (short_number input))
+  unpicked : (p : Picked) → 4 ≤ length input → PickDone mod257 (told_in input) (tray_in input) p → has_lines p.number ≡ false
+      → ReportOf input p.number (answer_line p.number)
+  joined : (p : Picked) (result : Joined) (left : List ℕ) → 4 ≤ length input → PickDone mod257 (told_in input) (tray_in input) p → has_lines p.number ≡ true
+      → JoinDone mod257 (told_in input) p.stamp p.length (tray_in input) (replicate p.length 0) result left
+      → ReportOf input result.number (lines (told_in input) (tray_in input) p.stamp p.length result)
 
 -- the report stands at the start of the space lent, the count of its bytes and its number are answered, and the rest of the space is as it was
 pub record Reported (input before : List ℕ) (answered : Answered) (after : List ℕ) : Type 0 where

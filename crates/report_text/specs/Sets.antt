@@ -5,11 +5,11 @@ use Rattle.std.proofs.Math.Path.{ap}
 use mathlib.Core.List.{List, ◌++◌}
 use Rattle.std.proofs.Common.{arith, length-append}
 use Rattle.std.specs.Int.Count.{ones}
-use Rattle.lists.specs.KeeperSet.{keeperSet, member}
-use Rattle.lists.specs.KeeperSetLaws.{member-keeper-set}
-use Rattle.lists.specs.Pieces.{pieces, pieces-same}
-use Rattle.lines.specs.Lines.{keyLine, keeperLine, countLine, answerLine, word_of}
-use Rattle.lines.specs.LineLaws.{length-keeper-line}
+use Rattle.lists.specs.KeeperSet.{keeper_set, member}
+use Rattle.lists.specs.KeeperSetLaws.{member-keeper_set}
+use Rattle.lists.specs.Pieces.{pieces, pieces_same}
+use Rattle.lines.specs.Lines.{key_line, keeper_line, count_line, answer_line, word_of}
+use Rattle.lines.specs.LineLaws.{length-keeper_line}
 use Rattle.header.specs.declared.told.Told.{Told}
 use Rattle.tray.specs.Tray.{usable}
 use Rattle.join.specs.declared.Joined.{Joined}
@@ -17,32 +17,32 @@ use Rattle.report_text.specs.Report.{standing, lines}
 
 -- the line of keeper k + 1
 abbrev pub line_of : ℕ → ℕ → ℕ → ℕ → List ℕ
-line_of number usables set k = keeperLine (suc k) (word_of (standing number (member usables (suc k)) (member set (suc k))))
+line_of number usables set k = keeper_line (suc k) (word_of (standing number (member usables (suc k)) (member set (suc k))))
 
 unfoldable pub lines_of : ℕ → ℕ → ℕ → ℕ → ℕ → Joined → List ℕ
 lines_of n key stamp l usables result =
-    keyLine key stamp l
+    key_line key stamp l
     ++ (pieces (line_of result.number usables result.set) n
-    ++ (countLine result.usable result.need (ones result.set)
-    ++ answerLine result.number))
+    ++ (count_line result.usable result.need (ones result.set)
+    ++ answer_line result.number))
 
 -- sixteen keepers' lines are short
-pub length-keepers : (number usables set n : ℕ) → n ≤ 16 → length (pieces (line_of number usables set) n) ≤ 18 * n
+pub length_keepers : (number usables set n : ℕ) → n ≤ 16 → length (pieces (line_of number usables set) n) ≤ 18 * n
 unfolding pieces
-length-keepers number usables set zero h = omega arith
-length-keepers number usables set (suc k) h =
+length_keepers number usables set zero h = omega arith
+length_keepers number usables set (suc k) h =
     rw length-append
-    (omega (arith, length-keepers number usables set k (omega arith), length-keeper-line (suc k) (standing number (member usables (suc k)) (member set (suc k))) (omega arith)))
+    (omega (arith, length_keepers number usables set k (omega arith), length-keeper_line (suc k) (standing number (member usables (suc k)) (member set (suc k))) (omega arith)))
 
 -- where the first set is that of the usable keepers, these are the lines of the report
 module _ (told : Told) (tray : List ℕ) (stamp l : ℕ) (result : Joined) where
   one_line : (k : ℕ) → suc k ≤ told.order.n
-      → line_of result.number (keeperSet (usable told stamp l tray) told.order.n) result.set k
-      ≡ keeperLine (suc k) (word_of (standing result.number (usable told stamp l tray (suc k)) (member result.set (suc k))))
-  one_line k h = rw (member-keeper-set (usable told stamp l tray) told.order.n (suc k) (omega arith) h)
+      → line_of result.number (keeper_set (usable told stamp l tray) told.order.n) result.set k
+      ≡ keeper_line (suc k) (word_of (standing result.number (usable told stamp l tray (suc k)) (member result.set (suc k))))
+  one_line k h = rw (member-keeper_set (usable told stamp l tray) told.order.n (suc k) (omega arith) h)
 
-  pub lines-of-set : lines_of told.order.n told.key stamp l (keeperSet (usable told stamp l tray) told.order.n) result ≡ lines told tray stamp l result
+  pub lines_of-set : lines_of told.order.n told.key stamp l (keeper_set (usable told stamp l tray) told.order.n) result ≡ lines told tray stamp l result
   unfolding lines_of lines
-  lines-of-set =
-      ap (λ (ks : List ℕ). keyLine told.key stamp l ++ (ks ++ (countLine result.usable result.need (ones result.set) ++ answerLine result.number)))
-      (pieces-same _ _ told.order.n one_line)
+  lines_of-set =
+      ap (λ (ks : List ℕ). key_line told.key stamp l ++ (ks ++ (count_line result.usable result.need (ones result.set) ++ answer_line result.number)))
+      (pieces_same _ _ told.order.n one_line)

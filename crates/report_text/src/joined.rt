@@ -1,6 +1,6 @@
 // The group picked, joined and reported.
 ghost use Rattle.std.specs.Prelude.{◌≡◌, length};
-ghost use Rattle.lists.specs.KeeperSet.{keeperSet};
+ghost use Rattle.lists.specs.KeeperSet.{keeper_set};
 ghost use Rattle.tray.specs.Tray.{usable};
 ghost use Rattle.report_text.specs.Joined.{Joinable, JoinedReported};
 
@@ -13,7 +13,7 @@ use tray::scan;
 // The usable keepers, as a set.
 pub fn usable_in(told: Told, stamp: u32, l: usize, tray: &[u8]) -> u16
     requires { Joinable told l tray.now }
-    ensures { result ≡ keeperSet (usable told stamp l tray.now) told.order.n }
+    ensures { result ≡ keeper_set (usable told stamp l tray.now) told.order.n }
 {
     let mut rows = [0u16; 15232];
     scan(told, stamp, l, tray, &mut rows)

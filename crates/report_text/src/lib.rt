@@ -1,6 +1,6 @@
 // The report: from the input's bytes to the report's bytes.
 ghost use Rattle.std.specs.Prelude.{◌≡◌, ◌≤◌, length};
-ghost use Rattle.report_text.specs.Report.{hasLines, order_in, toldIn, shortNumber, Reported};
+ghost use Rattle.report_text.specs.Report.{has_lines, order_in, told_in, short_number, Reported};
 
 use crate::answer::{Answered, answer_alone};
 use crate::joined::report_joined;
@@ -16,7 +16,7 @@ pub mod line;
 
 // Whether the lines of the group picked are written with the pick's number.
 fn has_lines(number: u32) -> bool
-    ensures { result ≡ hasLines number }
+    ensures { result ≡ has_lines number }
 {
     number == 0 || (number == 7 || number == 8)
 }
@@ -24,7 +24,7 @@ fn has_lines(number: u32) -> bool
 // The report of an input that has an order and a key: of what is picked.
 fn report_picked(told: Told, input: &[u8], out: &mut [u8]) -> Answered
     requires fact_1 { 4 ≤ length input.now }
-    requires fact_2 { told ≡ toldIn input.now }
+    requires fact_2 { told ≡ told_in input.now }
     requires fact_3 { length out.old ≡ 512 }
     ensures { Reported input.now out.old result out.new }
 {
@@ -50,7 +50,7 @@ fn order_in(input: &[u8]) -> Order
 
 // The number of an input that has no key: 1 where it has an order that is not lawful, else 4.
 fn short_number(input: &[u8]) -> u32
-    ensures { result ≡ shortNumber input.now }
+    ensures { result ≡ short_number input.now }
 {
     if input.len() < 3 {
         return 4;

@@ -1,6 +1,6 @@
 // The program `report`: an order, a key and a tray on standard input, the report on standard output, its number as the status.
 ghost use Rattle.std.specs.Prelude.{◌≡◌, List, ℕ, ◌≤◌};
-ghost use Rattle.reporting.specs.Status.{statusOf, Ended};
+ghost use Rattle.reporting.specs.Status.{status_of, Ended};
 
 use crate::standard::{refuse_words, taken, wrote};
 use report_text::report;
@@ -10,7 +10,7 @@ mod standard;
 // The report's number, or 100, which is none, where the report is not written.
 fn status_of(written: bool, number: u32) -> i32
     requires { number ≤ 8 }
-    ensures { result ≡ statusOf written number }
+    ensures { result ≡ status_of written number }
 {
     if written { number as i32 } else { 100 }
 }

@@ -13,7 +13,7 @@ use lib.Seq.{take-suc-set, take_at}
 use Rattle.lists.specs.Chosen.{chosen, length-chosen}
 use Rattle.lists.specs.Count.{count}
 use Rattle.lists.specs.From.{from}
-use Rattle.lists.specs.Rising.{chosen-next, chosen-split, count_next}
+use Rattle.lists.specs.Rising.{chosen_next, chosen_split, count_next}
 use Rattle.search.specs.Base.{Base}
 
 pub record Gathered (of : ℕ → Bool) (t : ℕ) (who : List ℕ) (found k : ℕ) : Type 0 where
@@ -24,35 +24,35 @@ pub record Gathered (of : ℕ → Bool) (t : ℕ) (who : List ℕ) (found k : �
   pub within : k ≤ 16
 
 module _ {of : ℕ → Bool} {t : ℕ} (enough : t + 1 ≤ count of (from 1 16)) {who : List ℕ} {found k : ℕ} (g : Gathered of t who found k) where
-  pub gathered-more : found ≤ t → k < 16
-  gathered-more h =
+  pub gathered_more : found ≤ t → k < 16
+  gathered_more h =
       by_cases (dec_lt k 16) (λ l. l)
       (λ past. let e : k ≡ 16 = omega (arith, g.within) in let s = rw e at g.counted in omega arith)
 
-  pub gathered-in : t ≤ 7 → found ≤ t → of (k + 1) ≡ true → Gathered of t (set who found (k + 1)) (found + 1) (k + 1)
-  gathered-in room h e = record {
+  pub gathered_in : t ≤ 7 → found ≤ t → of (k + 1) ≡ true → Gathered of t (set who found (k + 1)) (found + 1) (k + 1)
+  gathered_in room h e = record {
     size = length-set who found (k + 1) ∙ g.size;
-    so_far = rw (add-one found, take-suc-set who found (k + 1) (omega (arith, g.size)), g.so_far) (sym (chosen-next of k true e));
+    so_far = rw (add-one found, take-suc-set who found (k + 1) (omega (arith, g.size)), g.so_far) (sym (chosen_next of k true e));
     counted = omega (arith, g.counted, count_next of k true e);
     few = omega arith;
-    within = omega (arith, gathered-more h);
+    within = omega (arith, gathered_more h);
   }
 
-  pub gathered-out : found ≤ t → of (k + 1) ≡ false → Gathered of t who found (k + 1)
-  gathered-out h e = record {
+  pub gathered_out : found ≤ t → of (k + 1) ≡ false → Gathered of t who found (k + 1)
+  gathered_out h e = record {
     size = g.size;
-    so_far = g.so_far ∙ sym (chosen-next of k false e ∙ append-nil (chosen of (from 1 k)));
+    so_far = g.so_far ∙ sym (chosen_next of k false e ∙ append-nil (chosen of (from 1 k)));
     counted = omega (arith, g.counted, count_next of k false e);
     few = g.few;
-    within = omega (arith, gathered-more h);
+    within = omega (arith, gathered_more h);
   }
 
-  pub gathered-all : t < found → Base t 16 of (take (t + 1) who)
-  gathered-all h = record { enough = enough; first = all }
+  pub gathered_all : t < found → Base t 16 of (take (t + 1) who)
+  gathered_all h = record { enough = enough; first = all }
     where
       all : take (t + 1) who ≡ take (t + 1) (chosen of (from 1 16))
       all =
           let e : t + 1 ≡ found = omega (arith, g.few) in
-          rw (e, chosen-split of k 16 g.within)
+          rw (e, chosen_split of k 16 g.within)
           (g.so_far
           ∙ sym (take_at (chosen of (from 1 k)) (chosen of (from (1 + k) (16 - k))) found (length-chosen of (from 1 k) ∙ sym g.counted)))

@@ -5,7 +5,7 @@ use Rattle.std.specs.Int.Count.{ones}
 use Rattle.lists.specs.Below.{Below}
 use Rattle.lists.specs.Count.{count}
 use Rattle.lists.specs.From.{from}
-use Rattle.lists.specs.KeeperSet.{keeperSet}
+use Rattle.lists.specs.KeeperSet.{keeper_set}
 use Rattle.lists.specs.Member.{In}
 use Rattle.algebra.specs.Field.{Ops}
 use Rattle.algebra.specs.Poly.{eval, Degree}
@@ -25,8 +25,8 @@ abbrev pub matched : Ops → (ℕ → Bool) → (ℕ → ℕ) → List ℕ → �
 matched O among y p x = among x && eqb (eval O p x) (y x)
 
 -- those whose words are what is carried to them from some points
-abbrev pub carriedTo : Ops → (ℕ → Bool) → (ℕ → ℕ) → List ℕ → ℕ → Bool
-carriedTo O among y xs x = among x && eqb (carried O xs y x) (y x)
+abbrev pub carried_to : Ops → (ℕ → Bool) → (ℕ → ℕ) → List ℕ → ℕ → Bool
+carried_to O among y xs x = among x && eqb (carried O xs y x) (y x)
 
 module _ (O : Ops) (t n need : ℕ) (among : ℕ → Bool) (y : ℕ → ℕ) where
   -- a polynomial that enough keepers match, and the set of those that do
@@ -34,7 +34,7 @@ module _ (O : Ops) (t n need : ℕ) (among : ℕ → Bool) (y : ℕ → ℕ) whe
     pub polynomial : List ℕ
     pub degree : Degree O t polynomial
     pub enough : need ≤ count (matched O among y polynomial) (from 1 n)
-    pub matching : set ≡ keeperSet (matched O among y polynomial) n
+    pub matching : set ≡ keeper_set (matched O among y polynomial) n
 
   -- a set that was found, or the empty one only where no polynomial that gives hope is matched by enough
   pub record Finds (Hope : List ℕ → Type 0) (set : ℕ) : Type 0 where
@@ -48,7 +48,7 @@ Through O n set y p = (x : ℕ) → In x (from 1 n) → set x ≡ true → eval 
 -- a polynomial that the search past keeper `next` has not missed: the base is the keepers up to there that match it,
 -- and of those that may still be skipped there are enough
 pub record OnTrack (O : Ops) (n need : ℕ) (among : ℕ → Bool) (y : ℕ → ℕ) (base next skips : ℕ) (p : List ℕ) : Type 0 where
-  pub so_far : base ≡ keeperSet (matched O among y p) next
+  pub so_far : base ≡ keeper_set (matched O among y p) next
   pub spare : count among (from 1 n) + ones base ≤ need + skips + count among (from 1 next)
 
 -- what the search past keeper `next` finds

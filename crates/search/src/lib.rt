@@ -1,10 +1,10 @@
 // The search at one word: a set of t + 1 keepers whose polynomial enough of the others match.
 ghost use Rattle.std.specs.Prelude.{◌≡◌, ◌+◌, ◌<◌, ◌≤◌, length};
 ghost use Rattle.std.specs.Int.Count.{ones};
-ghost use Rattle.lists.specs.KeeperSet.{keeperSet, member};
+ghost use Rattle.lists.specs.KeeperSet.{keeper_set, member};
 ghost use Rattle.field.specs.Modulo.{mod257};
 ghost use Rattle.weigh.specs.Weigh.{Keepers};
-ghost use Rattle.search.specs.Search.{word, carriedTo, Words, Finds, Through, Searched, Sought};
+ghost use Rattle.search.specs.Search.{word, carried_to, Words, Finds, Through, Searched, Sought};
 
 pub mod keepers;
 
@@ -16,7 +16,7 @@ fn keeper_matches(points: &[u16], words: &[u16], among: u16, k: usize) -> bool
     requires fact_1 { Keepers points.now }
     requires fact_2 { length words.now ≡ 16 }
     requires fact_3 { k < 16 }
-    ensures { result ≡ carriedTo mod257 (member among) (word words.now) points.now (k + 1) }
+    ensures { result ≡ carried_to mod257 (member among) (word words.now) points.now (k + 1) }
 {
     has(among, k) && carry_word(points, words, k as u16 + 1) == words[k]
 }
@@ -25,7 +25,7 @@ fn keeper_matches(points: &[u16], words: &[u16], among: u16, k: usize) -> bool
 fn matching(points: &[u16], words: &[u16], among: u16) -> u16
     requires fact_1 { Keepers points.now }
     requires fact_2 { length words.now ≡ 16 }
-    ensures { result ≡ keeperSet (carriedTo mod257 (member among) (word words.now) points.now) 16 }
+    ensures { result ≡ keeper_set (carried_to mod257 (member among) (word words.now) points.now) 16 }
 {
     let mut set: u16 = 0;
     let mut k = 0;

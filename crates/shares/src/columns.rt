@@ -1,7 +1,7 @@
 // The constants and the random words laid out in columns, one for each power of x.
 ghost use Rattle.std.specs.Prelude.{◌≡◌, ◌+◌, ◌*◌, ◌<◌, length, get_or};
 ghost use Rattle.lists.specs.Listed.{listed};
-ghost use Rattle.shares.specs.Columns.{columnsOf};
+ghost use Rattle.shares.specs.Columns.{columns_of};
 
 use crate::rows::copy;
 
@@ -22,7 +22,7 @@ fn put_coefficients(random: &[u16], t: usize, j: usize, column: &mut [u16])
 pub fn lay_out(constants: &[u16], random: &[u16], t: usize, columns: &mut [u16])
     requires fact_1 { length random.now ≡ length constants.now * t }
     requires fact_2 { length columns.old ≡ length constants.now * (t + 1) }
-    ensures { columns.new ≡ columnsOf t constants.now random.now }
+    ensures { columns.new ≡ columns_of t constants.now random.now }
 {
     let l = constants.len();
     copy(constants, &mut columns[..l]);

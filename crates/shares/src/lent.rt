@@ -1,6 +1,6 @@
 // What is wrong with what a cut is lent: random words, and room for each keeper.
 ghost use Rattle.std.specs.Prelude.{◌≡◌, cond, ◌≤◌};
-ghost use Rattle.shares.specs.Lent.{lentRight};
+ghost use Rattle.shares.specs.Lent.{lent_right};
 
 use header::order::Order;
 
@@ -10,7 +10,7 @@ pub fn lent_right(o: Order, l: usize, words: usize, each: usize, room: usize) ->
     requires fact_2 { o.n ≤ 16 }
     requires fact_3 { l ≤ 952 }
     requires fact_4 { each ≤ 2048 }
-    ensures { result ≡ lentRight o l words each room }
+    ensures { result ≡ lent_right o l words each room }
 {
     words == l * o.t && room == each * o.n
 }

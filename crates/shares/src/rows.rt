@@ -4,7 +4,7 @@ ghost use Rattle.lists.specs.Below.{Below};
 ghost use Rattle.lists.specs.Listed.{listed};
 ghost use Rattle.lists.specs.Pieces.{pieces};
 ghost use Rattle.field.specs.Modulo.{mod257};
-ghost use Rattle.shares.specs.Columns.{valuesFrom};
+ghost use Rattle.shares.specs.Columns.{values_from};
 
 // A keeper's number as a word.
 pub fn narrow(x: usize) -> u16
@@ -46,7 +46,7 @@ pub fn share_row(columns: &[u16], t: usize, x: u16, row: &mut [u16])
     requires fact_1 { length columns.now ≡ length row.old * (t + 1) }
     requires fact_2 { Below 257 columns.now }
     requires fact_3 { x ≤ 16 }
-    ensures { row.new ≡ valuesFrom mod257 columns.now (length row.old) t x 0 }
+    ensures { row.new ≡ values_from mod257 columns.now (length row.old) t x 0 }
 {
     let l = row.len();
     let last = l * t;
@@ -65,7 +65,7 @@ pub(crate) fn write_rows(columns: &[u16], t: usize, n: usize, l: usize, rows: &m
     requires fact_2 { Below 257 columns.now }
     requires fact_3 { n ≤ 16 }
     requires fact_4 { length rows.old ≡ l * n }
-    ensures { rows.new ≡ pieces (λ k. valuesFrom mod257 columns.now l t (suc k) 0) n }
+    ensures { rows.new ≡ pieces (λ k. values_from mod257 columns.now l t (suc k) 0) n }
 {
     let mut k = 0;
     while k < n {

@@ -1,8 +1,8 @@
 // The cut of a list of words, each of which may be 256.
 ghost use Rattle.std.specs.Prelude.{◌≡◌, ◌&&◌, ◌+◌, ◌*◌, length};
-ghost use Rattle.block.specs.Check.{allAtMost};
+ghost use Rattle.block.specs.Check.{all_at_most};
 ghost use Rattle.field.specs.Modulo.{mod257};
-ghost use Rattle.shares.specs.Words.{wordsNumber, shareRows, WordsDone};
+ghost use Rattle.shares.specs.Words.{words_number, share_rows, WordsDone};
 
 use crate::columns::lay_out;
 use crate::lent::{lent_number, lent_right};
@@ -13,14 +13,14 @@ use header::order::Order;
 use header::terms::lawful_length;
 
 fn both_within(constants: &[u16], random: &[u16]) -> bool
-    ensures { result ≡ (allAtMost 256 constants.now && allAtMost 256 random.now) }
+    ensures { result ≡ (all_at_most 256 constants.now && all_at_most 256 random.now) }
 {
     within(constants, 256) && within(random, 256)
 }
 
 // The number of the first refusal that applies, or 0.
 fn refusal(o: Order, constants: &[u16], random: &[u16], rows: &[u16]) -> u32
-    ensures { result ≡ wordsNumber o constants.now random.now rows.now }
+    ensures { result ≡ words_number o constants.now random.now rows.now }
 {
     let l = constants.len();
     if !order::lawful(o) {
@@ -35,9 +35,9 @@ fn refusal(o: Order, constants: &[u16], random: &[u16], rows: &[u16]) -> u32
 
 // Fills the rows of all keepers. The columns are room to work in.
 fn fill(o: Order, constants: &[u16], random: &[u16], columns: &mut [u16], rows: &mut [u16])
-    requires fact_1 { wordsNumber o constants.now random.now rows.old ≡ 0 }
+    requires fact_1 { words_number o constants.now random.now rows.old ≡ 0 }
     requires fact_2 { length columns.old ≡ length constants.now * (o.t + 1) }
-    ensures { rows.new ≡ shareRows mod257 o constants.now random.now }
+    ensures { rows.new ≡ share_rows mod257 o constants.now random.now }
 {
     lay_out(constants, random, o.t, columns);
     write_rows(columns, o.t, o.n, constants.len(), rows);

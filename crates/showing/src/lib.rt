@@ -3,7 +3,7 @@ ghost use Rattle.std.specs.Prelude.{◌+◌, ◌≤◌, ◌++◌, length};
 ghost use Rattle.io.specs.Counts.{IsPrefixLen};
 ghost use Rattle.lines.specs.Text.{decimal};
 ghost use Rattle.lines.specs.Written.{Written};
-ghost use Rattle.showing.specs.Lines.{letterLine, differenceLine, totalLine, trialsLine, keyLine, sameLine};
+ghost use Rattle.showing.specs.Lines.{letter_line, difference_line, total_line, trials_line, key_line, same_line};
 
 use lines::line::put_named;
 use lines::text::{put, put_decimal};
@@ -30,7 +30,7 @@ pub fn put_letter_line(
     l: u32,
 ) -> usize
     ensures prefix_len { IsPrefixLen result out.new }
-    ensures written { Written out.old 0 (letterLine t f n key keeper stamp l) out.new result }
+    ensures written { Written out.old 0 (letter_line t f n key keeper stamp l) out.new result }
 {
     let of_t = put_named(out, 0, b"order ", t);
     let of_n = put_pair(out, of_t, b",", f, b",", n);
@@ -49,7 +49,7 @@ pub fn put_difference_line(
     second: u32,
 ) -> usize
     ensures prefix_len { IsPrefixLen result out.new }
-    ensures written { Written out.old 0 (differenceLine slot block word first second) out.new result }
+    ensures written { Written out.old 0 (difference_line slot block word first second) out.new result }
 {
     let of_slot = put_named(out, 0, b"slot ", slot);
     let of_word = put_pair(out, of_slot, b" block ", block, b" word ", word);
@@ -60,7 +60,7 @@ pub fn put_difference_line(
 // As "no word differs", "1 word differs" or "2 words differ".
 pub fn put_total_line(out: &mut [u8; 128], count: u32) -> usize
     ensures prefix_len { IsPrefixLen result out.new }
-    ensures written { Written out.old 0 (totalLine count) out.new result }
+    ensures written { Written out.old 0 (total_line count) out.new result }
 {
     if count == 0 {
         return put(out, 0, b"no word differs\n");
@@ -75,7 +75,7 @@ pub fn put_total_line(out: &mut [u8; 128], count: u32) -> usize
 // As "trials 2".
 pub fn put_trials_line(out: &mut [u8; 128], trials: u32) -> usize
     ensures prefix_len { IsPrefixLen result out.new }
-    ensures written { Written out.old 0 (trialsLine trials) out.new result }
+    ensures written { Written out.old 0 (trials_line trials) out.new result }
 {
     let next = put_named(out, 0, b"trials ", trials);
     put(out, next, b"\n")
@@ -85,7 +85,7 @@ pub fn put_trials_line(out: &mut [u8; 128], trials: u32) -> usize
 pub fn put_key_line(out: &mut [u8; 128], side: &[u8], key: u32, stamp: u32, l: u32) -> usize
     requires { length side.now ≤ 3 }
     ensures prefix_len { IsPrefixLen result out.new }
-    ensures written { Written out.old 0 (keyLine side.now key stamp l) out.new result }
+    ensures written { Written out.old 0 (key_line side.now key stamp l) out.new result }
 {
     let of_side = put(out, 0, side);
     let of_key = put_named(out, of_side, b" key ", key);
@@ -96,7 +96,7 @@ pub fn put_key_line(out: &mut [u8; 128], side: &[u8], key: u32, stamp: u32, l: u
 // "the same key" or "different keys".
 pub fn put_same_line(out: &mut [u8; 128], same: bool) -> usize
     ensures prefix_len { IsPrefixLen result out.new }
-    ensures written { Written out.old 0 (sameLine same) out.new result }
+    ensures written { Written out.old 0 (same_line same) out.new result }
 {
     if same {
         return put(out, 0, b"the same key\n");

@@ -4,26 +4,26 @@ use Rattle.std.specs.Prelude.{ℕ, suc, ◌+◌, ◌-◌, ◌<◌, ◌≤◌, �
 use Rattle.std.proofs.Common.{◌∙◌, add-one, eq-eqb, ne_eqb}
 use native.Mathlib.Omega.{arith}
 use Rattle.sub_letters.specs.declared.judging.Weighing.{Weighing}
-use Rattle.sub_letters.specs.Judging.{only, orNext, firstSub}
+use Rattle.sub_letters.specs.Judging.{only, or_next, first_sub}
 
-pub said-first : (one two : Weighing) → (one.number ≡ 0 → ⊥) → orNext one two ≡ one
-said-first one two other = rw (ne_eqb one.number 0 other)
+pub said_first : (one two : Weighing) → (one.number ≡ 0 → ⊥) → or_next one two ≡ one
+said_first one two other = rw (ne_eqb one.number 0 other)
 
-pub said-next : (one two : Weighing) → one.number ≡ 0 → orNext one two ≡ two
-said-next one two e = rw (eq-eqb one.number 0 e)
+pub said_next : (one two : Weighing) → one.number ≡ 0 → or_next one two ≡ two
+said_next one two e = rw (eq-eqb one.number 0 e)
 
 module _ (rule : ℕ → Weighing) (count : ℕ) where
   -- of `count` sub-letters, the rule gives no number of those before k
   pub record NoneTo (k : ℕ) : Type 0 where
     pub reached : k ≤ count
-    pub still : firstSub rule 0 count ≡ firstSub rule k (count - k)
+    pub still : first_sub rule 0 count ≡ first_sub rule k (count - k)
 
   pub none_yet : NoneTo 0
   none_yet = let all : count - 0 ≡ count = omega arith in record { reached = omega arith; still = rw all }
 
   module _ (k : ℕ) (before : NoneTo k) where
-    pub none_at_all : count ≤ k → firstSub rule 0 count ≡ only 0
-    unfolding firstSub
+    pub none_at_all : count ≤ k → first_sub rule 0 count ≡ only 0
+    unfolding first_sub
     none_at_all past =
         let none : count - k ≡ 0 = omega arith in
         before.still ∙ rw none
@@ -32,14 +32,14 @@ module _ (rule : ℕ → Weighing) (count : ℕ) where
       one_more : count - k ≡ suc (count - (k + 1))
       one_more = omega arith
 
-      pub found_here : (found.number ≡ 0 → ⊥) → firstSub rule 0 count ≡ found
-      unfolding firstSub
-      found_here other = before.still ∙ rw (one_more, ← is) (said-first found _ other)
+      pub found_here : (found.number ≡ 0 → ⊥) → first_sub rule 0 count ≡ found
+      unfolding first_sub
+      found_here other = before.still ∙ rw (one_more, ← is) (said_first found _ other)
 
       pub none_here : found.number ≡ 0 → NoneTo (k + 1)
-      unfolding firstSub
+      unfolding first_sub
       none_here e =
           record {
             reached = omega arith;
-            still = before.still ∙ rw (one_more, ← is, add-one) (said-next found _ e);
+            still = before.still ∙ rw (one_more, ← is, add-one) (said_next found _ e);
           }

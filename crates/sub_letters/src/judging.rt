@@ -1,11 +1,11 @@
 // Judging a weighing: what is told and lent, then the sub-letters.
 ghost use Rattle.std.specs.Prelude.{◌≡◌, ◌&&◌, suc, length};
-ghost use Rattle.header.specs.Order.{lawfulKeeper};
+ghost use Rattle.header.specs.Order.{lawful_keeper};
 ghost use Rattle.moving.specs.Lent.{MoveTerms};
-ghost use Rattle.sub_letters.specs.Keepers.{allKeepers};
+ghost use Rattle.sub_letters.specs.Keepers.{all_keepers};
 ghost use Rattle.sub_letters.specs.Lent.{SubsLent};
-ghost use Rattle.sub_letters.specs.Subs.{fromsOf};
-ghost use Rattle.sub_letters.specs.Judging.{weighLent, weighRefusal, only, firstSub, faultAt, otherAt, subsAnswer};
+ghost use Rattle.sub_letters.specs.Subs.{froms_of};
+ghost use Rattle.sub_letters.specs.Judging.{weigh_lent, weigh_refusal, only, first_sub, fault_at, other_at, subs_answer};
 
 use crate::keepers::all_keepers;
 use crate::subs::froms_right;
@@ -37,14 +37,14 @@ pub fn alone(number: u32) -> Weighing
 
 // Whether all keepers told of are in their orders.
 fn keepers_right(m: Move, keepers: &[u32], keeper: usize) -> bool
-    ensures { result ≡ (allKeepers m.old keepers.now && lawfulKeeper m.told.order keeper) }
+    ensures { result ≡ (all_keepers m.old keepers.now && lawful_keeper m.told.order keeper) }
 {
     all_keepers(m.old, keepers) && has_keeper(m.told.order, keeper)
 }
 
 fn is_lent(m: Move, keepers: usize, letters: usize, slot: usize) -> bool
     requires { MoveTerms m }
-    ensures { result ≡ weighLent m keepers letters slot }
+    ensures { result ≡ weigh_lent m keepers letters slot }
 {
     let many = m.old.t + 1;
     keepers == many && (letters == 2048 * many && slot == 2048)
@@ -52,7 +52,7 @@ fn is_lent(m: Move, keepers: usize, letters: usize, slot: usize) -> bool
 
 // Of what is told and lent, the first number that applies: 1 to 4, or 0.
 pub fn refusal(m: Move, keepers: &[u32], keeper: usize, letters: &[u8], slot: &[u8]) -> u32
-    ensures { result ≡ weighRefusal m keepers.now keeper letters.now slot.now }
+    ensures { result ≡ weigh_refusal m keepers.now keeper letters.now slot.now }
 {
     let number = move_number(m, keepers_right(m, keepers, keeper));
     if number != 0 {
@@ -68,7 +68,7 @@ pub fn refusal(m: Move, keepers: &[u32], keeper: usize, letters: &[u8], slot: &[
 // What is wrong with sub-letter k: 9 to 13, or 0.
 fn fault_at(letters: &[u8], k: usize) -> Weighing
     requires { SubsLent letters.now (suc k) }
-    ensures { result ≡ faultAt letters.now k }
+    ensures { result ≡ fault_at letters.now k }
 {
     match read_as(82, 256, slot_of(letters, k + 1)) {
         Reading::Good(_) => Weighing {
@@ -87,7 +87,7 @@ fn fault_at(letters: &[u8], k: usize) -> Weighing
 // What is wrong with the first sub-letter that is not good; 0 where all are.
 fn first_fault(letters: &[u8], count: usize) -> Weighing
     requires { SubsLent letters.now count }
-    ensures { result ≡ firstSub (faultAt letters.now) 0 count }
+    ensures { result ≡ first_sub (fault_at letters.now) 0 count }
 {
     let mut k = 0;
     while k < count {
@@ -103,7 +103,7 @@ fn first_fault(letters: &[u8], count: usize) -> Weighing
 // Whether sub-letter k is other than was told: 16, or 0.
 fn other_at(m: Move, keeper: usize, letters: &[u8], k: usize) -> Weighing
     requires { SubsLent letters.now (suc k) }
-    ensures { result ≡ otherAt m keeper letters.now k }
+    ensures { result ≡ other_at m keeper letters.now k }
 {
     let said = head_of(block_at(slot_of(letters, k + 1), 0));
     let number = if head::same(said, head_for(m.told, m.stamp, m.length, keeper)) {
@@ -121,7 +121,7 @@ fn other_at(m: Move, keeper: usize, letters: &[u8], k: usize) -> Weighing
 // The first sub-letter that is other than was told; 0 where none is.
 fn first_other(m: Move, keeper: usize, letters: &[u8], count: usize) -> Weighing
     requires { SubsLent letters.now count }
-    ensures { result ≡ firstSub (otherAt m keeper letters.now) 0 count }
+    ensures { result ≡ first_sub (other_at m keeper letters.now) 0 count }
 {
     let mut k = 0;
     while k < count {
@@ -137,9 +137,9 @@ fn first_other(m: Move, keeper: usize, letters: &[u8], count: usize) -> Weighing
 // Of the sub-letters, the first number that applies: 9 to 13, 16, 19, or 0. The froms are the old keepers that they name.
 pub fn judge(m: Move, keepers: &[u16], froms: &[u16], keeper: usize, letters: &[u8]) -> Weighing
     requires fact_1 { MoveTerms m }
-    requires fact_2 { froms.now ≡ fromsOf letters.now (length keepers.now) }
+    requires fact_2 { froms.now ≡ froms_of letters.now (length keepers.now) }
     requires fact_3 { SubsLent letters.now (length keepers.now) }
-    ensures { result ≡ subsAnswer m keepers.now keeper letters.now }
+    ensures { result ≡ subs_answer m keepers.now keeper letters.now }
 {
     let count = keepers.len();
     let fault = first_fault(letters, count);

@@ -1,13 +1,13 @@
 // Lists of keepers: whether they are an order's, differ from one another, and are among others.
 ghost use Rattle.std.specs.Prelude.{◌≡◌, ◌≤◌, length};
 ghost use Rattle.lists.specs.Below.{Below};
-ghost use Rattle.sub_letters.specs.Keepers.{allKeepers, noneIs, differ, eachIn};
+ghost use Rattle.sub_letters.specs.Keepers.{all_keepers, none_is, differ, each_in};
 
 use header::order::{Order, has_keeper};
 
 // Whether all of them are keepers of an order.
 pub fn all_keepers(o: Order, keepers: &[u32]) -> bool
-    ensures { result ≡ allKeepers o keepers.now }
+    ensures { result ≡ all_keepers o keepers.now }
 {
     let mut i = 0;
     while i < keepers.len() {
@@ -35,7 +35,7 @@ pub fn put_keepers(keepers: &[u32], row: &mut [u16])
 // Whether none of the first k is x.
 fn none_is(x: u16, xs: &[u16], k: usize) -> bool
     requires { k ≤ length xs.now }
-    ensures { result ≡ noneIs x xs.now k }
+    ensures { result ≡ none_is x xs.now k }
 {
     let mut i = 0;
     while i < k {
@@ -63,7 +63,7 @@ pub fn are_different(xs: &[u16]) -> bool
 
 // Whether each of the first is among the second.
 pub fn are_among(xs: &[u16], ys: &[u16]) -> bool
-    ensures { result ≡ eachIn xs.now ys.now }
+    ensures { result ≡ each_in xs.now ys.now }
 {
     let mut i = 0;
     while i < xs.len() {

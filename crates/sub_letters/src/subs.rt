@@ -1,9 +1,9 @@
 // Sub-letters lent end to end: the old keepers that they name.
 ghost use Rattle.std.specs.Prelude.{◌≡◌, suc, ◌≤◌, eqb, length};
-ghost use Rattle.lists.specs.AllTo.{allTo};
-ghost use Rattle.format.specs.Letter.{blocksFor};
+ghost use Rattle.lists.specs.AllTo.{all_to};
+ghost use Rattle.format.specs.Letter.{blocks_for};
 ghost use Rattle.sub_letters.specs.Lent.{SubsLent};
-ghost use Rattle.sub_letters.specs.Subs.{fromAt, fromsOf, steady, fromsRight};
+ghost use Rattle.sub_letters.specs.Subs.{from_at, froms_of, steady, froms_right};
 
 use crate::keepers::{are_among, are_different};
 use block::words::word_at;
@@ -14,7 +14,7 @@ use tray::slot_of;
 // Word 14 of block p of sub-letter k.
 fn from_at(letters: &[u8], k: usize, p: usize) -> u16
     requires { SubsLent letters.now (suc k) × (suc p ≤ 4) }
-    ensures { result ≡ fromAt letters.now k p }
+    ensures { result ≡ from_at letters.now k p }
 {
     word_at(block_at(slot_of(letters, k + 1), p), 14)
 }
@@ -22,7 +22,7 @@ fn from_at(letters: &[u8], k: usize, p: usize) -> u16
 // Fills a row with the old keepers that as many sub-letters name.
 pub fn put_froms(letters: &[u8], row: &mut [u16])
     requires { SubsLent letters.now (length row.old) }
-    ensures { row.new ≡ fromsOf letters.now (length row.old) }
+    ensures { row.new ≡ froms_of letters.now (length row.old) }
 {
     let mut k = 0;
     while k < row.len() {
@@ -34,7 +34,7 @@ pub fn put_froms(letters: &[u8], row: &mut [u16])
 // Whether a sub-letter of so many blocks names one old keeper in all of them.
 fn names_one(letters: &[u8], k: usize, count: usize) -> bool
     requires { SubsLent letters.now (suc k) × (count ≤ 4) }
-    ensures { result ≡ allTo (λ p. eqb (fromAt letters.now k p) (fromAt letters.now k 0)) count }
+    ensures { result ≡ all_to (λ p. eqb (from_at letters.now k p) (from_at letters.now k 0)) count }
 {
     let first = from_at(letters, k, 0);
     let mut p = 0;
@@ -65,9 +65,9 @@ fn are_steady(letters: &[u8], count: usize, l: usize) -> bool
 
 // Whether the sub-letters are those of the keepers told, one of each. The froms are the old keepers that they name.
 pub fn froms_right(keepers: &[u16], froms: &[u16], letters: &[u8], l: usize) -> bool
-    requires fact_1 { froms.now ≡ fromsOf letters.now (length keepers.now) }
+    requires fact_1 { froms.now ≡ froms_of letters.now (length keepers.now) }
     requires fact_2 { SubsLent letters.now (length keepers.now) × (l ≤ 952) }
-    ensures { result ≡ fromsRight keepers.now letters.now l }
+    ensures { result ≡ froms_right keepers.now letters.now l }
 {
     are_different(keepers)
         && (are_different(froms)

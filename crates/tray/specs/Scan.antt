@@ -2,7 +2,7 @@
 -- Assumes nothing.
 use Rattle.std.specs.Prelude.{ℕ, ◌+◌, ◌-◌, ◌*◌, ◌<◌, ◌≤◌, ◌≡◌, true, List, length, get_or}
 use Rattle.lists.specs.Below.{Below}
-use Rattle.lists.specs.KeeperSet.{keeperSet}
+use Rattle.lists.specs.KeeperSet.{keeper_set}
 use Rattle.header.specs.declared.told.Told.{Told}
 use Rattle.tray.specs.Tray.{usable, word_of}
 
@@ -16,7 +16,7 @@ pub record Scannable (told : Told) (l : ℕ) (tray rows : List ℕ) : Type 0 whe
 
 -- the set of the usable keepers, and rows of 952 field words, in which a usable keeper's words stand first in its row
 pub record Scanned (told : Told) (stamp l : ℕ) (tray : List ℕ) (set : ℕ) (rows : List ℕ) : Type 0 where
-  pub keepers : set ≡ keeperSet (usable told stamp l tray) told.order.n
+  pub keepers : set ≡ keeper_set (usable told stamp l tray) told.order.n
   pub size : length rows ≡ 15232
   pub below : Below 257 rows
   pub words : (x i : ℕ) → usable told stamp l tray x ≡ true → i < l → get_or rows (952 * (x - 1) + i) 0 ≡ word_of tray l x i

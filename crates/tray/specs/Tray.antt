@@ -5,7 +5,7 @@ use Rattle.lists.specs.Count.{count}
 use Rattle.lists.specs.From.{from}
 use Rattle.header.specs.declared.told.Told.{Told}
 use Rattle.header.specs.declared.head.Head.{Head}
-use Rattle.header.specs.Head.{sameHead}
+use Rattle.header.specs.Head.{same_head}
 use Rattle.format.specs.declared.reader.Reading.{Reading}
 use Rattle.format.specs.declared.reader.Reading.TheVariants.{Good, Bad}
 use Rattle.format.specs.Reading.{read_of, shares_of}
@@ -15,22 +15,22 @@ unfoldable pub slot_of : List ℕ → ℕ → List ℕ
 slot_of tray x = take 2048 (drop (2048 * (x - 1)) tray)
 
 -- the head that keeper x's letter has
-abbrev pub headFor : Told → ℕ → ℕ → ℕ → Head
-headFor told stamp l x = record { told = told; keeper = x; stamp = stamp; length = l }
+abbrev pub head_for : Told → ℕ → ℕ → ℕ → Head
+head_for told stamp l x = record { told = told; keeper = x; stamp = stamp; length = l }
 
 -- good, with just this head
-abbrev pub readsAs : Reading → Head → Bool
-readsAs (Good h) asked = sameHead h asked
-readsAs (Bad number place) asked = false
+abbrev pub reads_as : Reading → Head → Bool
+reads_as (Good h) asked = same_head h asked
+reads_as (Bad number place) asked = false
 
 -- "A slot is usable if its letter reads as good and has this order, stamp and length and this slot's keeper number." Of the key: "a usable letter
 -- must carry it"
 unfoldable pub usable : Told → ℕ → ℕ → List ℕ → ℕ → Bool
-usable told stamp l tray x = readsAs (read_of (slot_of tray x)) (headFor told stamp l x)
+usable told stamp l tray x = reads_as (read_of (slot_of tray x)) (head_for told stamp l x)
 
 -- "With m usable": how many slots are
-abbrev pub usableMany : Told → ℕ → ℕ → List ℕ → ℕ
-usableMany told stamp l tray = count (usable told stamp l tray) (from 1 told.order.n)
+abbrev pub usable_many : Told → ℕ → ℕ → List ℕ → ℕ
+usable_many told stamp l tray = count (usable told stamp l tray) (from 1 told.order.n)
 
 -- word i of keeper x's letter of l
 unfoldable pub word_of : List ℕ → ℕ → ℕ → ℕ → ℕ

@@ -5,30 +5,30 @@ use Rattle.std.proofs.Common.{ap}
 use Rattle.std.proofs.lemmas.Bool.{false≢true}
 use Rattle.header.specs.declared.told.Told.{Told}
 use Rattle.header.specs.declared.head.Head.{Head}
-use Rattle.header.specs.HeadLaws.{HeadFacts, lawful-head-facts, same-head-equal, equal-same-head}
+use Rattle.header.specs.HeadLaws.{HeadFacts, lawful_head_facts, same_head_equal, equal_same_head}
 use Rattle.format.specs.declared.reader.Reading.{Reading}
 use Rattle.format.specs.declared.reader.Reading.TheVariants.{Good, Bad}
 use Rattle.format.specs.Reading.{read_of}
-use Rattle.format.specs.ReadingBounds.{good-lawful}
-use Rattle.tray.specs.Tray.{headFor, readsAs, slot_of, usable}
+use Rattle.format.specs.ReadingBounds.{good_lawful}
+use Rattle.tray.specs.Tray.{head_for, reads_as, slot_of, usable}
 
-reads-good : (reading : Reading) (h : Head) → readsAs reading h ≡ true → reading ≡ Good h
-reads-good (Good g) h e = ap Good (same-head-equal g h e)
-reads-good (Bad number place) h e = absurd (false≢true e)
+reads_good : (reading : Reading) (h : Head) → reads_as reading h ≡ true → reading ≡ Good h
+reads_good (Good g) h e = ap Good (same_head_equal g h e)
+reads_good (Bad number place) h e = absurd (false≢true e)
 
 module _ (told : Told) (stamp l : ℕ) (tray : List ℕ) (x : ℕ) where
-  pub usable-reads : usable told stamp l tray x ≡ true → read_of (slot_of tray x) ≡ Good (headFor told stamp l x)
+  pub usable_reads : usable told stamp l tray x ≡ true → read_of (slot_of tray x) ≡ Good (head_for told stamp l x)
   unfolding usable
-  usable-reads e = reads-good (read_of (slot_of tray x)) (headFor told stamp l x) e
+  usable_reads e = reads_good (read_of (slot_of tray x)) (head_for told stamp l x) e
 
-  pub reads-usable : read_of (slot_of tray x) ≡ Good (headFor told stamp l x) → usable told stamp l tray x ≡ true
+  pub reads_usable : read_of (slot_of tray x) ≡ Good (head_for told stamp l x) → usable told stamp l tray x ≡ true
   unfolding usable
-  reads-usable e = rw e (equal-same-head (headFor told stamp l x) (headFor told stamp l x) refl)
+  reads_usable e = rw e (equal_same_head (head_for told stamp l x) (head_for told stamp l x) refl)
 
-  pub usable-as : (reading : Reading) → read_of (slot_of tray x) ≡ reading → usable told stamp l tray x ≡ readsAs reading (headFor told stamp l x)
+  pub usable_as : (reading : Reading) → read_of (slot_of tray x) ≡ reading → usable told stamp l tray x ≡ reads_as reading (head_for told stamp l x)
   unfolding usable
-  usable-as reading e = rw e
+  usable_as reading e = rw e
 
   -- a usable slot is that of a keeper of the order, and its key, stamp and length are lawful
-  pub usable-facts : usable told stamp l tray x ≡ true → HeadFacts (headFor told stamp l x)
-  usable-facts e = lawful-head-facts (headFor told stamp l x) (good-lawful (slot_of tray x) (headFor told stamp l x) (usable-reads e))
+  pub usable_facts : usable told stamp l tray x ≡ true → HeadFacts (head_for told stamp l x)
+  usable_facts e = lawful_head_facts (head_for told stamp l x) (good_lawful (slot_of tray x) (head_for told stamp l x) (usable_reads e))

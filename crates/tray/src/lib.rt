@@ -1,6 +1,6 @@
 // A tray of slots: the one scan that gathers its usable letters.
 ghost use Rattle.std.specs.Prelude.{◌≡◌, ◌*◌, ◌≤◌, length};
-ghost use Rattle.tray.specs.Tray.{slot_of, headFor};
+ghost use Rattle.tray.specs.Tray.{slot_of, head_for};
 ghost use Rattle.tray.specs.Scan.{Scannable, Scanned};
 
 use format::reader::{Reading, read, take_shares};
@@ -19,7 +19,7 @@ pub fn slot_of(tray: &[u8], x: usize) -> &[u8]
 
 // The head that keeper x's letter has.
 pub fn head_for(told: Told, stamp: u32, l: usize, x: usize) -> Head
-    ensures { result ≡ headFor told stamp l x }
+    ensures { result ≡ head_for told stamp l x }
 {
     Head {
         told,

@@ -23,8 +23,8 @@ with_first {k} x xs z s = record { size = ap suc s.size; within = within; differ
     within y (inl e) = inl e
     within y (inr m) = inr (s.within y m)
 
-without-first : {k : ℕ} (x : ℕ) (xs z : List ℕ) → SetOf k xs z → SetOf k (x ∷ xs) z
-without-first x xs z s = record { size = s.size; within = λ y m. inr (s.within y m); different = λ d. s.different d.1 }
+without_first : {k : ℕ} (x : ℕ) (xs z : List ℕ) → SetOf k xs z → SetOf k (x ∷ xs) z
+without_first x xs z s = record { size = s.size; within = λ y m. inr (s.within y m); different = λ d. s.different d.1 }
 
 pub sets_of : (xs : List ℕ) (k : ℕ) → Each (SetOf k xs) (sets xs k)
 unfolding sets
@@ -34,4 +34,4 @@ sets_of (x ∷ xs) zero = (empty_of (x ∷ xs), tt)
 sets_of (x ∷ xs) (suc k) =
     each_append (SetOf (suc k) (x ∷ xs)) (map (λ z. x ∷ z) (sets xs k)) (sets xs (suc k))
     (each_map (SetOf (suc k) (x ∷ xs)) (λ z. x ∷ z) (sets xs k) (each_more (with_first x xs) (sets xs k) (sets_of xs k)))
-    (each_more (without-first x xs) (sets xs (suc k)) (sets_of xs (suc k)))
+    (each_more (without_first x xs) (sets xs (suc k)) (sets_of xs (suc k)))

@@ -3,7 +3,7 @@
 use Rattle.std.specs.Prelude.{ℕ, ◌≡◌, refl, Bool, true, ◌&&◌, List, [], ◌∷◌}
 use Rattle.std.proofs.Common.{ap, ◌∙◌, inl, inr}
 use Rattle.std.proofs.Math.Bool.{and-eq-true_iff}
-use Rattle.lists.specs.Folded.{folded-same}
+use Rattle.lists.specs.Folded.{folded_same}
 use Rattle.lists.specs.Member.{In}
 
 -- each number of a list passes a test: they lie within the set of those that do
@@ -24,4 +24,4 @@ each_within a (y ∷ z) h = (and-eq-true_iff (a y) (within a z)).1 (h y (inl ref
 
 pub within_same : (a b : ℕ → Bool) (z : List ℕ) → ((x : ℕ) → In x z → a x ≡ b x) → within a z ≡ within b z
 unfolding within
-within_same = folded-same within (λ x b rest. b && rest) (λ a b. refl) (λ a x z. refl)
+within_same = folded_same within (λ x b rest. b && rest) (λ a b. refl) (λ a x z. refl)

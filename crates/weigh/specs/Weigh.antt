@@ -10,8 +10,8 @@ abbrev pub carried : Ops → List ℕ → (ℕ → ℕ) → ℕ → ℕ
 carried O xs y x = combine O (map y xs) (factors O xs x) (length xs)
 
 -- rows of 952 words, a row for each of the keepers 1..16: word i of keeper x
-abbrev pub rowWord : List ℕ → ℕ → ℕ → ℕ
-rowWord rows x i = get_or rows (952 * (x - 1) + i) 0
+abbrev pub row_word : List ℕ → ℕ → ℕ → ℕ
+row_word rows x i = get_or rows (952 * (x - 1) + i) 0
 
 -- each of them is the number of a keeper
 abbrev pub Keepers : List ℕ → Type 0

@@ -3,7 +3,7 @@ ghost use Rattle.std.specs.Prelude.{◌≡◌, ◌-◌, ◌+◌, ◌*◌, ◌%�
 ghost use Rattle.lists.specs.Listed.{listed};
 ghost use Rattle.algebra.specs.Factor.{factor};
 ghost use Rattle.field.specs.Modulo.{mod257};
-ghost use Rattle.weigh.specs.Weigh.{carried, rowWord, Keepers, Carriage, Addition};
+ghost use Rattle.weigh.specs.Weigh.{carried, row_word, Keepers, Carriage, Addition};
 
 use field::{add, mul, reciprocal, sub};
 
@@ -69,7 +69,7 @@ pub fn reduce(sums: &[u32], row: &mut [u16])
 // The words at x, a row of them, from the rows of at most eight keepers.
 pub fn carry_row(points: &[u16], rows: &[u16], x: u16, row: &mut [u16])
     requires { Carriage points.now rows.now row.old }
-    ensures { row.new ≡ listed (λ i. carried mod257 points.now (λ a. rowWord rows.now a i) x) (length row.old) }
+    ensures { row.new ≡ listed (λ i. carried mod257 points.now (λ a. row_word rows.now a i) x) (length row.old) }
 {
     let mut sums = [0u32; 952];
     let size = row.len();

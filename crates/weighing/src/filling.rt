@@ -1,10 +1,10 @@
 // The letter that sub-letters weigh out to.
 ghost use Rattle.std.specs.Prelude.{◌≡◌, true, length};
-ghost use Rattle.header.specs.Head.{lawfulHead};
+ghost use Rattle.header.specs.Head.{lawful_head};
 ghost use Rattle.field.specs.Modulo.{mod257};
-ghost use Rattle.tray.specs.Tray.{headFor};
+ghost use Rattle.tray.specs.Tray.{head_for};
 ghost use Rattle.weighing.specs.Lent.{Weighable};
-ghost use Rattle.weighing.specs.Weighing.{weighedWords, weighedLetter};
+ghost use Rattle.weighing.specs.Weighing.{weighed_words, weighed_letter};
 
 use format::letter::write;
 use format::reader::take_shares;
@@ -15,7 +15,7 @@ use weigh::{add_row, factor_of, reduce};
 // Fills a row with the weighed words of sub-letters: each word times the factor that carries its old keeper's value to zero, added.
 fn weigh_rows(froms: &[u16], letters: &[u8], row: &mut [u16])
     requires { Weighable froms.now letters.now row.old }
-    ensures { row.new ≡ weighedWords mod257 letters.now (length froms.now) (length row.old) }
+    ensures { row.new ≡ weighed_words mod257 letters.now (length froms.now) (length row.old) }
 {
     let mut sums = [0u32; 952];
     let size = row.len();
@@ -32,9 +32,9 @@ fn weigh_rows(froms: &[u16], letters: &[u8], row: &mut [u16])
 pub fn fill(m: Move, froms: &[u16], keeper: usize, letters: &[u8], row: &mut [u16], slot: &mut [u8])
     requires fact_1 { Weighable froms.now letters.now row.old }
     requires fact_2 { length row.old ≡ m.length }
-    requires fact_3 { lawfulHead (headFor m.told m.stamp m.length keeper) ≡ true }
+    requires fact_3 { lawful_head (head_for m.told m.stamp m.length keeper) ≡ true }
     requires fact_4 { length slot.old ≡ 2048 }
-    ensures { slot.new ≡ weighedLetter mod257 m keeper letters.now (length froms.now) }
+    ensures { slot.new ≡ weighed_letter mod257 m keeper letters.now (length froms.now) }
 {
     weigh_rows(froms, letters, row);
     write(head_for(m.told, m.stamp, m.length, keeper), row, slot);

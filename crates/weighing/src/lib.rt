@@ -1,8 +1,8 @@
 // Weighing the sub-letters of enough old keepers into a new keeper's letter.
 ghost use Rattle.std.specs.Prelude.{◌≡◌, length};
 ghost use Rattle.field.specs.Modulo.{mod257};
-ghost use Rattle.sub_letters.specs.Judging.{weighRefusal};
-ghost use Rattle.sub_letters.specs.Subs.{fromsOf};
+ghost use Rattle.sub_letters.specs.Judging.{weigh_refusal};
+ghost use Rattle.sub_letters.specs.Subs.{froms_of};
 ghost use Rattle.weighing.specs.Weighing.{WeighDone};
 
 use crate::filling::fill;
@@ -22,8 +22,8 @@ fn weigh_told(
     letters: &[u8],
     slot: &mut [u8],
 ) -> Weighing
-    requires fact_1 { weighRefusal m keepers.now keeper letters.now slot.old ≡ 0 }
-    requires fact_2 { froms.now ≡ fromsOf letters.now (length keepers.now) }
+    requires fact_1 { weigh_refusal m keepers.now keeper letters.now slot.old ≡ 0 }
+    requires fact_2 { froms.now ≡ froms_of letters.now (length keepers.now) }
     ensures { WeighDone mod257 m keepers.now keeper letters.now slot.old result slot.new }
 {
     let judged = judge(m, keepers, froms, keeper, letters);
@@ -45,7 +45,7 @@ fn weigh_lent(
     froms: &mut [u16],
     slot: &mut [u8],
 ) -> Weighing
-    requires fact_1 { weighRefusal m keepers.now keeper letters.now slot.old ≡ 0 }
+    requires fact_1 { weigh_refusal m keepers.now keeper letters.now slot.old ≡ 0 }
     requires fact_2 { length told.old ≡ length keepers.now }
     requires fact_3 { length froms.old ≡ length keepers.now }
     ensures { WeighDone mod257 m keepers.now keeper letters.now slot.old result slot.new }

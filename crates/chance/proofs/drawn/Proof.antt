@@ -7,8 +7,8 @@ use Rattle.chance.proofs.drawn.Tie as tie
 returns : tie.Need-returns
 returns c = rw (lt-ltb c.before.args.draw 65535 c.if1.true)
 
-returns-2 : tie.Need-returns-2
-returns-2 c = rw (le-ltb c.before.args.draw 65535 c.if1.false)
+returns_2 : tie.Need-returns-2
+returns_2 c = rw (le-ltb c.before.args.draw 65535 c.if1.false)
 
-pub drawn-spec : {M : Type 1} → statement M
-drawn-spec = tie.close (tie.spec returns returns-2)
+pub drawn_spec : {M : Type 1} → statement M
+drawn_spec = tie.close (tie.spec returns returns_2)

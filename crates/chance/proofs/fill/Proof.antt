@@ -8,7 +8,7 @@ use lib.ListN.{length}
 use borrow.Author.Rules.{rules}
 use borrow.Author.Tests.{ltb-true, eqb-true}
 use Rattle.chance.specs.Draw.{Begun}
-use Rattle.chance.specs.DrawLaws.{begun-none, begun_all}
+use Rattle.chance.specs.DrawLaws.{begun_none, begun_all}
 use Rattle.chance.proofs.fill.Statement.{statement}
 use Rattle.chance.proofs.fill.Tie as tie
 
@@ -19,7 +19,7 @@ abbrev decreases-loop : tie.decreases-loop
 decreases-loop words₀ bytes₀ count₀ calls₀ words bytes count calls = 1000 - calls
 
 loop-holds : tie.Need-loop-init invariant-loop decreases-loop
-loop-holds c = (refl, refl, begun-none _)
+loop-holds c = (refl, refl, begun_none _)
 
 slice-aggregate-getentropy : tie.Need-slice-aggregate-getentropy invariant-loop decreases-loop
 slice-aggregate-getentropy c = search rules
@@ -45,11 +45,11 @@ loop-less c = omega (arith, ltb-true)
 loop-again : tie.Need-loop-preserved invariant-loop decreases-loop
 loop-again c = search rules
 
-same-length-2 : tie.Need-same-length-2 invariant-loop decreases-loop
-same-length-2 c = search rules
+same_length_2 : tie.Need-same-length-2 invariant-loop decreases-loop
+same_length_2 c = search rules
 
-returns-2 : tie.Need-returns-2 invariant-loop decreases-loop
-returns-2 c = λ t. begun_all c.before.loop.invariant.2 (eqb-true _ _ t)
+returns_2 : tie.Need-returns-2 invariant-loop decreases-loop
+returns_2 c = λ t. begun_all c.before.loop.invariant.2 (eqb-true _ _ t)
 
 pub fill_spec : {M : Type 1} → statement M
 fill_spec =
@@ -66,5 +66,5 @@ fill_spec =
     add-calls
     loop-less
     loop-again
-    same-length-2
-    returns-2)
+    same_length_2
+    returns_2)

@@ -9,14 +9,14 @@ use borrow.Author.Rules.{rules}
 use Rattle.lists.specs.Chosen.{chosen}
 use Rattle.block.specs.WordParts.{length-words, get_d_words}
 use Rattle.block.specs.Words.{words_of}
-use Rattle.chance.specs.Draw.{wordsDrawn, Laid, Begun}
-use Rattle.chance.specs.LaidLaws.{drawn-more, laid_none, laid_more}
+use Rattle.chance.specs.Draw.{words_drawn, Laid, Begun}
+use Rattle.chance.specs.LaidLaws.{drawn_more, laid_none, laid_more}
 use Rattle.chance.proofs.fill_from.Statement.{statement}
 use Rattle.chance.proofs.fill_from.Tie as tie
 
 abbrev invariant-loop : tie.invariant-loop
 invariant-loop bytes words₀ from count₀ i₀ words count i =
-    (i ≤ 128) × (length words ≡ length words₀) × Begun words count × Laid words₀ from (wordsDrawn (take i (words_of bytes))) words count
+    (i ≤ 128) × (length words ≡ length words₀) × Begun words count × Laid words₀ from (words_drawn (take i (words_of bytes))) words count
 
 abbrev decreases-loop : tie.decreases-loop
 decreases-loop bytes words₀ from count₀ i₀ words count i = 128 - i
@@ -62,7 +62,7 @@ loop-again c =
     let draws = words_of bytes in
     let draw = done.before.pair.ensures ∙ sym (get_d_words bytes here.i (omega arith)) in
     let one = rw draw at done.put.ensures.1 in
-    let more = drawn-more draws here.i (omega (arith, length-words bytes)) in
+    let more = drawn_more draws here.i (omega (arith, length-words bytes)) in
     (search rules, search rules, search rules, rw more (laid_more start.requires.0.within here.invariant.3 one))
 
 same_length : tie.Need-same-length invariant-loop decreases-loop
@@ -76,8 +76,8 @@ returns c =
     let all = take_all here.i (words_of bytes) (omega (arith, length-words bytes)) in
     (here.invariant.2, rw all at here.invariant.3)
 
-pub fill-from-spec : {M : Type 1} → statement M
-fill-from-spec =
+pub fill_from_spec : {M : Type 1} → statement M
+fill_from_spec =
     tie.close
     (tie.spec
     invariant-loop

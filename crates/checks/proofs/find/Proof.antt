@@ -27,8 +27,8 @@ join-requires c κs = search rules
 same_length : tie.Need-same-length
 same_length c = search rules
 
-returns-2 : tie.Need-returns-2
-returns-2 c = search rules
+returns_2 : tie.Need-returns-2
+returns_2 c = search rules
 
 pub find_spec : {M : Type 1} → statement M
 find_spec =
@@ -41,4 +41,4 @@ find_spec =
     slice-aggregate-join
     join-requires
     same_length
-    returns-2)
+    returns_2)

@@ -32,8 +32,8 @@ same_length c = search rules
 returns : tie.Need-returns
 returns c = search rules
 
-pub key-of-spec : {M : Type 1} → statement M
-key-of-spec =
+pub key_of_spec : {M : Type 1} → statement M
+key_of_spec =
     tie.close
     (tie.spec
     slots-of-requires

@@ -34,11 +34,11 @@ loop-less c = search rules
 loop-again : tie.Need-loop-preserved invariant-loop decreases-loop
 loop-again c = search rules
 
-returns-2 : tie.Need-returns-2 invariant-loop decreases-loop
-returns-2 c = search rules
+returns_2 : tie.Need-returns-2 invariant-loop decreases-loop
+returns_2 c = search rules
 
-pub read-all-spec : {M : Type 1} → statement M
-read-all-spec =
+pub read_all_spec : {M : Type 1} → statement M
+read_all_spec =
     tie.close
     (tie.spec
     invariant-loop
@@ -51,4 +51,4 @@ read-all-spec =
     sub-turns
     loop-less
     loop-again
-    returns-2)
+    returns_2)

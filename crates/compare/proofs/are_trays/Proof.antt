@@ -14,8 +14,8 @@ mul-result c = search rules
 returns : tie.Need-returns
 returns c = search chain
 
-returns-2 : tie.Need-returns-2
-returns-2 c = search chain
+returns_2 : tie.Need-returns-2
+returns_2 c = search chain
 
-pub are-trays-spec : {M : Type 1} → statement M
-are-trays-spec = tie.close (tie.spec mul-if1 mul-result returns returns-2)
+pub are_trays_spec : {M : Type 1} → statement M
+are_trays_spec = tie.close (tie.spec mul-if1 mul-result returns returns_2)

@@ -7,8 +7,8 @@ use Rattle.desk.proofs.are_slots.Tie as tie
 returns : tie.Need-returns
 returns c = search chain
 
-returns-2 : tie.Need-returns-2
-returns-2 c = search chain
+returns_2 : tie.Need-returns-2
+returns_2 c = search chain
 
-pub are-slots-spec : {M : Type 1} → statement M
-are-slots-spec = tie.close (tie.spec returns returns-2)
+pub are_slots_spec : {M : Type 1} → statement M
+are_slots_spec = tie.close (tie.spec returns returns_2)

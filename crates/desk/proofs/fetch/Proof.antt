@@ -16,9 +16,9 @@ returns : tie.Need-returns
 unfolding fetched
 returns c = rw (← c.before.fetch-number.ensures, eq-eqb _ 0 c.if1.true)
 
-returns-2 : tie.Need-returns-2
+returns_2 : tie.Need-returns-2
 unfolding fetched
-returns-2 c = rw (← c.before.before.fetch-number.ensures, ne_eqb _ 0 c.before.if1.false)
+returns_2 c = rw (← c.before.before.fetch-number.ensures, ne_eqb _ 0 c.before.if1.false)
 
 pub fetch_spec : {M : Type 1} → statement M
-fetch_spec = tie.close (tie.spec fetch-number-requires slice-aggregate-result returns returns-2)
+fetch_spec = tie.close (tie.spec fetch-number-requires slice-aggregate-result returns returns_2)

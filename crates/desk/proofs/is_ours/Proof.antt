@@ -11,8 +11,8 @@ same-requires c κs = search rules
 returns : tie.Need-returns
 returns c = search chain
 
-returns-2 : tie.Need-returns-2
-returns-2 c = search chain
+returns_2 : tie.Need-returns-2
+returns_2 c = search chain
 
-pub is-ours-spec : {M : Type 1} → statement M
-is-ours-spec = tie.close (tie.spec same-requires returns returns-2)
+pub is_ours_spec : {M : Type 1} → statement M
+is_ours_spec = tie.close (tie.spec same-requires returns returns_2)

@@ -3,7 +3,7 @@
 use mathlib.Core.Path.{refl}
 use borrow.Author.Rules.{rules}
 use borrow.Author.Tests.{not-true, not-false}
-use Rattle.desk.specs.Desk.{storeNumber, storePlace}
+use Rattle.desk.specs.Desk.{store_number, store_place}
 use Rattle.desk.proofs.judge.Statement.{statement}
 use Rattle.desk.proofs.judge.Tie as tie
 
@@ -11,7 +11,7 @@ right-requires : tie.Need-right-requires
 right-requires c κs = search rules
 
 returns : tie.Need-returns
-unfolding storeNumber storePlace
+unfolding store_number store_place
 returns c =
     let told = c.before.right in
     rw (← told.ensures, not-true told.result c.if1.true) (refl, refl)
@@ -19,9 +19,9 @@ returns c =
 are-slots-requires : tie.Need-are-slots-requires
 are-slots-requires c κs = search rules
 
-returns-2 : tie.Need-returns-2
-unfolding storeNumber storePlace
-returns-2 c =
+returns_2 : tie.Need-returns-2
+unfolding store_number store_place
+returns_2 c =
     let told = c.before.before.before.right in
     let sized = c.before.are-slots in
     rw (← told.ensures, not-false told.result c.before.before.if1.false, ← sized.ensures, not-true sized.result c.if2.true) (refl, refl)
@@ -29,14 +29,14 @@ returns-2 c =
 judge-letter-requires : tie.Need-judge-letter-requires
 judge-letter-requires c κs = search rules
 
-returns-3 : tie.Need-returns-3
-unfolding storeNumber storePlace
-returns-3 c =
+returns_3 : tie.Need-returns-3
+unfolding store_number store_place
+returns_3 c =
     let told = c.before.before.before.before.right in
     let sized = c.before.before.are-slots in
     rw (← told.ensures, not-false told.result c.before.before.before.if1.false, ← sized.ensures, not-false sized.result c.before.if2.false) c.judge-letter.ensures
 
-pub judge-spec : {M : Type 1} → statement M
-judge-spec =
+pub judge_spec : {M : Type 1} → statement M
+judge_spec =
     tie.close
-    (tie.spec right-requires returns are-slots-requires returns-2 judge-letter-requires returns-3)
+    (tie.spec right-requires returns are-slots-requires returns_2 judge-letter-requires returns_3)

@@ -4,8 +4,8 @@ use mathlib.Core.Path.{◌≡◌, refl, sym}
 use borrow.Author.Rules.{rules}
 use Rattle.format.specs.declared.reader.Reading.TheVariants.{Good, Bad}
 use Rattle.format.specs.Reading.{read_of}
-use Rattle.format.specs.ReadingBounds.{fault-facts}
-use Rattle.desk.specs.StoreLaws.{offered-bad}
+use Rattle.format.specs.ReadingBounds.{fault_facts}
+use Rattle.desk.specs.StoreLaws.{offered_bad}
 use Rattle.desk.proofs.judge_letter.Statement.{statement}
 use Rattle.desk.proofs.judge_letter.Tie as tie
 
@@ -30,22 +30,22 @@ returns c =
     let read : read_of letter ≡ Good c.before.before.before.before.h.given.0.0 = cc in
     rw (read, ← c.before.before.is_ours.ensures, c.before.if1.true) (c.against-held.ensures, refl)
 
-returns-2 : tie.Need-returns-2
-returns-2 c =
+returns_2 : tie.Need-returns-2
+returns_2 c =
     let letter = c.before.before.before.before.before.before.before.before.args.letter.now in
     let read : read_of letter ≡ Good c.before.before.before.h.given.0.0 = cc in
     rw (read, ← c.before.is_ours.ensures, c.if1.false) (refl, refl)
 
-returns-3 : tie.Need-returns-3
-returns-3 c =
+returns_3 : tie.Need-returns-3
+returns_3 c =
     let a = c.before.before.before.before.before.before.args in
     let letter = a.letter.now in
     let read : read_of letter ≡ Bad c.before.number.given.0.0 c.before.number.given.0.1.0 = cc in
-    let number = offered-bad a.told a.keeper a.held.now letter _ _ (rw read at (fault-facts letter)) in
+    let number = offered_bad a.told a.keeper a.held.now letter _ _ (rw read at (fault_facts letter)) in
     rw read (sym number, refl)
 
-pub judge-letter-spec : {M : Type 1} → statement M
-judge-letter-spec =
+pub judge_letter_spec : {M : Type 1} → statement M
+judge_letter_spec =
     tie.close
     (tie.spec
     read-requires
@@ -54,5 +54,5 @@ judge-letter-spec =
     against-held-requires
     enum-known-number
     returns
-    returns-2
-    returns-3)
+    returns_2
+    returns_3)

@@ -14,8 +14,8 @@ has-keeper-requires c κs = search rules
 returns : tie.Need-returns
 returns c = search chain
 
-returns-2 : tie.Need-returns-2
-returns-2 c = search chain
+returns_2 : tie.Need-returns-2
+returns_2 c = search chain
 
-pub right-spec : {M : Type 1} → statement M
-right-spec = tie.close (tie.spec lawful-requires has-keeper-requires returns returns-2)
+pub right_spec : {M : Type 1} → statement M
+right_spec = tie.close (tie.spec lawful-requires has-keeper-requires returns returns_2)

@@ -15,8 +15,8 @@ cast-result c = search rules
 returns : tie.Need-returns
 returns c = rw (lt-ltb c.before.args.number 100 c.if1.true) (to_z_pos w32 (omega arith))
 
-returns-2 : tie.Need-returns-2
-returns-2 c = rw (le-ltb c.before.args.number 100 c.if1.false) refl
+returns_2 : tie.Need-returns-2
+returns_2 c = rw (le-ltb c.before.args.number 100 c.if1.false) refl
 
-pub as-status-spec : {M : Type 1} → statement M
-as-status-spec = tie.close (tie.spec cast-result returns returns-2)
+pub as_status_spec : {M : Type 1} → statement M
+as_status_spec = tie.close (tie.spec cast-result returns returns_2)

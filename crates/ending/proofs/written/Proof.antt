@@ -7,8 +7,8 @@ use Rattle.ending.proofs.written.Tie as tie
 returns : tie.Need-returns
 returns c = rw c.if1.true refl
 
-returns-2 : tie.Need-returns-2
-returns-2 c = rw c.if1.false refl
+returns_2 : tie.Need-returns-2
+returns_2 c = rw c.if1.false refl
 
-pub written-spec : {M : Type 1} → statement M
-written-spec = tie.close (tie.spec returns returns-2)
+pub written_spec : {M : Type 1} → statement M
+written_spec = tie.close (tie.spec returns returns_2)

@@ -17,5 +17,5 @@ cast-result c = search rules
 returns : tie.Need-returns
 returns c = search rules
 
-pub mul-spec : {M : Type 1} → statement M
-mul-spec = tie.close (tie.spec mul-result cast-result returns)
+pub mul_spec : {M : Type 1} → statement M
+mul_spec = tie.close (tie.spec mul-result cast-result returns)

@@ -19,5 +19,5 @@ returns : tie.Need-returns
 unfolding reciprocals
 returns c = refl
 
-pub reciprocal-spec : {M : Type 1} → statement M
-reciprocal-spec = tie.close (tie.spec cast-result mul-result array-read-result returns)
+pub reciprocal_spec : {M : Type 1} → statement M
+reciprocal_spec = tie.close (tie.spec cast-result mul-result array-read-result returns)

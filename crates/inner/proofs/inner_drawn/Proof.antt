@@ -20,8 +20,8 @@ cast-result c = search rules
 returns : tie.Need-returns
 returns c = rw c.before.if1.true at (ap told c.before.before.drawn.ensures)
 
-returns-2 : tie.Need-returns-2
-returns-2 c = rw c.if1.false at (ap told c.before.drawn.ensures)
+returns_2 : tie.Need-returns-2
+returns_2 c = rw c.if1.false at (ap told c.before.drawn.ensures)
 
-pub inner-drawn-spec : {M : Type 1} → statement M
-inner-drawn-spec = tie.close (tie.spec drawn-requires cast-result returns returns-2)
+pub inner_drawn_spec : {M : Type 1} → statement M
+inner_drawn_spec = tie.close (tie.spec drawn-requires cast-result returns returns_2)

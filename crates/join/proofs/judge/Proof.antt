@@ -14,13 +14,13 @@ use Rattle.lists.specs.From.{from}
 use Rattle.lists.specs.KeeperSet.{member}
 use Rattle.lists.specs.KeeperSetLaws.{ones-member}
 use Rattle.field.specs.Modulo.{mod257}
-use Rattle.field.specs.Laws.{mod257-field}
-use Rattle.weigh.specs.Weigh.{rowWord}
+use Rattle.field.specs.Laws.{mod257_field}
+use Rattle.weigh.specs.Weigh.{row_word}
 use Rattle.agree.specs.Kept.{Agreed}
-use Rattle.agree.specs.Rows.{row-word-lt}
-use Rattle.agree.specs.SizeLaws.{agreed-size}
-use Rattle.join.specs.Judged.{few-judged, apart-judged, agreed-found, agreed-judged}
-use Rattle.join.specs.Lowest.{enough-agreed, hunted-agreed}
+use Rattle.agree.specs.Rows.{row_word_lt}
+use Rattle.agree.specs.SizeLaws.{agreed_size}
+use Rattle.join.specs.Judged.{few_judged, apart_judged, agreed_found, agreed_judged}
+use Rattle.join.specs.Lowest.{enough_agreed, hunted_agreed}
 use Rattle.join.proofs.judge.Statement.{statement}
 use Rattle.join.proofs.judge.Tie as tie
 
@@ -50,7 +50,7 @@ answer-requires c κs = search rules
 returns : tie.Need-returns
 returns c =
     let few = c.before in
-    rw c.answer.ensures (few-judged (many few.before.before.before.before) few.before.need-of.ensures few.if1.true)
+    rw c.answer.ensures (few_judged (many few.before.before.before.before) few.before.need-of.ensures few.if1.true)
 
 agreement-requires : tie.Need-agreement-requires
 agreement-requires c κs =
@@ -63,28 +63,28 @@ all-sets-requires c κs = search rules
 answer-requires-2 : tie.Need-answer-requires-2
 answer-requires-2 c κs = search rules
 
-returns-2 : tie.Need-returns-2
-returns-2 c =
+returns_2 : tie.Need-returns-2
+returns_2 c =
     let counted = c.before in
     let none = counted.before in
     let found = none.before in
     rw c.answer2.ensures
-    (apart-judged (many found.before.before.before.before.before) found.before.before.need-of.ensures found.before.if1.false
+    (apart_judged (many found.before.before.before.before.before) found.before.before.need-of.ensures found.before.if1.false
     found.agreement.ensures none.if2.true counted.all-sets.ensures)
 
 -- the keepers that agree, where enough do
 agreed : (c : tie.Else2) → (let a = c.before.before.before.before.before.before in
-    Agreed mod257 a.args.t a.args.f 16 (member a.args.usable) (rowWord a.args.rows.now) (length a.args.room.now) c.before.agreement.result)
-agreed c = agreed-found (many c.before.before.before.before.before.before) c.before.before.before.need-of.ensures c.before.agreement.ensures c.if2.false
+    Agreed mod257 a.args.t a.args.f 16 (member a.args.usable) (row_word a.args.rows.now) (length a.args.room.now) c.before.agreement.result)
+agreed c = agreed_found (many c.before.before.before.before.before.before) c.before.before.before.need-of.ensures c.before.agreement.ensures c.if2.false
 
 -- their words are field words
-words : (c : tie.Start) → (x : ℕ) → 1 ≤ x → x ≤ 16 → member c.args.usable x ≡ true → (i : ℕ) → i < length c.args.room.now → rowWord c.args.rows.now x i < 257
-words c x least most u i h = row-word-lt c.requires.0 x i
+words : (c : tie.Start) → (x : ℕ) → 1 ≤ x → x ≤ 16 → member c.args.usable x ≡ true → (i : ℕ) → i < length c.args.room.now → row_word c.args.rows.now x i < 257
+words c x least most u i h = row_word_lt c.requires.0 x i
 
 trials-within-requires : tie.Need-trials-within-requires
 trials-within-requires c κs =
     let a = c.before.before.before.before.before.before in
-    (a.requires.1.0, enough-agreed mod257-field (omega arith) (words a) (agreed c))
+    (a.requires.1.0, enough_agreed mod257_field (omega arith) (words a) (agreed c))
 
 array-borrow-prefix-row : tie.Need-array-borrow-prefix-row
 array-borrow-prefix-row c = search rules
@@ -97,7 +97,7 @@ reveal-requires c κs =
     let found = c.before.before.before in
     let a = found.before.before.before.before.before.before in
     let lent = part _ _ refl a.requires.1.1.1 in
-    (a.requires.0, (a.requires.1.0, (agreed-size (agreed found), (lent.1, lent.0))))
+    (a.requires.0, (a.requires.1.0, (agreed_size (agreed found), (lent.1, lent.0))))
 
 answer-requires-3 : tie.Need-answer-requires-3
 answer-requires-3 c κs = search rules
@@ -105,20 +105,20 @@ answer-requires-3 c κs = search rules
 same_length : tie.Need-same-length
 same_length c = search rules
 
-returns-3 : tie.Need-returns-3
-returns-3 c =
+returns_3 : tie.Need-returns-3
+returns_3 c =
     let revealed = c.before.before.before.before in
     let counted = revealed.before.before.before in
     let found = counted.before in
     let a = found.before.before.before.before.before.before in
     let set = agreed found in
     rw c.answer3.ensures
-    (agreed-judged (many a) found.before.before.before.need-of.ensures set
+    (agreed_judged (many a) found.before.before.before.need-of.ensures set
     (revealed.reveal.ensures a.args.f (member a.args.usable) set.polynomials set.reaches set.agree)
-    (counted.trials-within.ensures ∙ hunted-agreed mod257-field (omega arith) (words a) set))
+    (counted.trials-within.ensures ∙ hunted_agreed mod257_field (omega arith) (words a) set))
 
-pub judge-spec : {M : Type 1} → statement M
-judge-spec =
+pub judge_spec : {M : Type 1} → statement M
+judge_spec =
     tie.close
     (tie.spec
     need-of-requires
@@ -130,11 +130,11 @@ judge-spec =
     agreement-requires
     all-sets-requires
     answer-requires-2
-    returns-2
+    returns_2
     trials-within-requires
     array-borrow-prefix-row
     slice-aggregate-reveal
     reveal-requires
     answer-requires-3
     same_length
-    returns-3)
+    returns_3)

@@ -37,8 +37,8 @@ slice-aggregate-trouble c = search rules
 trouble-requires : tie.Need-trouble-requires invariant-loop decreases-loop
 trouble-requires c κs = search rules
 
-returns-2 : tie.Need-returns-2 invariant-loop decreases-loop
-returns-2 c = search rules
+returns_2 : tie.Need-returns-2 invariant-loop decreases-loop
+returns_2 c = search rules
 
 sub-tries : tie.Need-overflow-sub-tries invariant-loop decreases-loop
 sub-tries c = search rules
@@ -52,11 +52,11 @@ loop-again c = search rules
 say-busy-requires : tie.Need-say-busy-requires invariant-loop decreases-loop
 say-busy-requires c κs = search rules
 
-returns-3 : tie.Need-returns-3 invariant-loop decreases-loop
-returns-3 c = search rules
+returns_3 : tie.Need-returns-3 invariant-loop decreases-loop
+returns_3 c = search rules
 
-pub hold-spec : {M : Type 1} → statement M
-hold-spec =
+pub hold_spec : {M : Type 1} → statement M
+hold_spec =
     tie.close
     (tie.spec
     invariant-loop
@@ -70,9 +70,9 @@ hold-spec =
     enum-told-3
     slice-aggregate-trouble
     trouble-requires
-    returns-2
+    returns_2
     sub-tries
     loop-less
     loop-again
     say-busy-requires
-    returns-3)
+    returns_3)

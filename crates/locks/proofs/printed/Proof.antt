@@ -23,8 +23,8 @@ cast-result c =
 returns : tie.Need-returns
 returns c = search rules
 
-returns-2 : tie.Need-returns-2
-returns-2 c = search rules
+returns_2 : tie.Need-returns-2
+returns_2 c = search rules
 
-pub printed-spec : {M : Type 1} → statement M
-printed-spec = tie.close (tie.spec cast-result returns returns-2)
+pub printed_spec : {M : Type 1} → statement M
+printed_spec = tie.close (tie.spec cast-result returns returns_2)

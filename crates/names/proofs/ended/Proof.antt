@@ -2,7 +2,7 @@
 -- Assumes nothing.
 use native.Mathlib.Omega.{arith}
 use mathlib.Core.Path.{refl}
-use Rattle.names.proofs.Naming.{written-closed, closed-last}
+use Rattle.names.proofs.Naming.{written_closed, closed_last}
 use borrow.Author.Rules.{rules}
 use Rattle.names.proofs.ended.Statement.{statement}
 use Rattle.names.proofs.ended.Tie as tie
@@ -16,10 +16,10 @@ slice-aggregate-put c = search rules
 put-requires : tie.Need-put-requires
 put-requires c κs = search rules
 
-returns-2 : tie.Need-returns-2
-returns-2 c =
-    let closed = written-closed c.before.put.ensures (omega arith) in
-    (closed-last (omega arith) closed, closed)
+returns_2 : tie.Need-returns-2
+returns_2 c =
+    let closed = written_closed c.before.put.ensures (omega arith) in
+    (closed_last (omega arith) closed, closed)
 
-pub ended-spec : {M : Type 1} → statement M
-ended-spec = tie.close (tie.spec returns slice-aggregate-put put-requires returns-2)
+pub ended_spec : {M : Type 1} → statement M
+ended_spec = tie.close (tie.spec returns slice-aggregate-put put-requires returns_2)

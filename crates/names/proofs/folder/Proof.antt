@@ -35,11 +35,11 @@ loop-less c = search rules
 loop-again : tie.Need-loop-preserved invariant-loop decreases-loop
 loop-again c = search rules
 
-returns-2 : tie.Need-returns-2 invariant-loop decreases-loop
-returns-2 c = search rules
+returns_2 : tie.Need-returns-2 invariant-loop decreases-loop
+returns_2 c = search rules
 
-pub folder-spec : {M : Type 1} → statement M
-folder-spec =
+pub folder_spec : {M : Type 1} → statement M
+folder_spec =
     tie.close
     (tie.spec
     invariant-loop
@@ -51,4 +51,4 @@ folder-spec =
     sub-end
     loop-less
     loop-again
-    returns-2)
+    returns_2)

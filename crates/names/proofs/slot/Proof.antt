@@ -21,8 +21,8 @@ returns c =
     let behind = c.before.before.before.behind-tray in
     (c.with.ensures.0, rw behind.ensures.1 at c.with.ensures.1)
 
-pub slot-spec : {M : Type 1} → statement M
-slot-spec =
+pub slot_spec : {M : Type 1} → statement M
+slot_spec =
     tie.close
     (tie.spec
     behind-tray-requires

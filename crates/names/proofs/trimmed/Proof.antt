@@ -35,11 +35,11 @@ loop-less c = search rules
 loop-again : tie.Need-loop-preserved invariant-loop decreases-loop
 loop-again c = search rules
 
-returns-2 : tie.Need-returns-2 invariant-loop decreases-loop
-returns-2 c = prefix_len_of_le _ _ (omega arith)
+returns_2 : tie.Need-returns-2 invariant-loop decreases-loop
+returns_2 c = prefix_len_of_le _ _ (omega arith)
 
-pub trimmed-spec : {M : Type 1} → statement M
-trimmed-spec =
+pub trimmed_spec : {M : Type 1} → statement M
+trimmed_spec =
     tie.close
     (tie.spec
     invariant-loop
@@ -51,4 +51,4 @@ trimmed-spec =
     sub-end
     loop-less
     loop-again
-    returns-2)
+    returns_2)

@@ -8,10 +8,10 @@ use native.Mathlib.Omega.{arith}
 use borrow.Author.Rules.{rules}
 use Rattle.agree.specs.Rows.{Rows}
 use Rattle.field.specs.Modulo.{mod257}
-use Rattle.field.specs.Laws.{mod257-field}
-use Rattle.pick.specs.RefusalLaws.{pick-facts}
-use Rattle.pick.proofs.Down.{Passed, passed_none, passed-joins, passed-more, passed-all, answered-bound}
-use Rattle.pick.proofs.LargeGroups.{next-below}
+use Rattle.field.specs.Laws.{mod257_field}
+use Rattle.pick.specs.RefusalLaws.{pick_facts}
+use Rattle.pick.proofs.Down.{Passed, passed_none, passed_joins, passed_more, passed_all, answered_bound}
+use Rattle.pick.proofs.LargeGroups.{next_below}
 use Rattle.pick.proofs.go_down.Statement.{statement}
 use Rattle.pick.proofs.go_down.Tie as tie
 
@@ -30,10 +30,10 @@ abbrev start_of : (c : tie.In-loop invariant-loop decreases-loop) → tie.Start 
 start_of c = c.before.before.before.before.before.before.before
 
 add-least : tie.Need-overflow-add-least invariant-loop decreases-loop
-add-least c = omega (arith, pick-facts _ _ c.before.before.before.before.requires.0)
+add-least c = omega (arith, pick_facts _ _ c.before.before.before.before.requires.0)
 
 add-least-2 : tie.Need-overflow-add-least-2 invariant-loop decreases-loop
-add-least-2 c = omega (arith, pick-facts _ _ c.before.before.before.before.requires.0)
+add-least-2 c = omega (arith, pick_facts _ _ c.before.before.before.before.requires.0)
 
 next-of-requires : tie.Need-next-of-requires invariant-loop decreases-loop
 next-of-requires c κs = search rules
@@ -46,13 +46,13 @@ loop-holds c =
 joined-requires : tie.Need-joined-requires invariant-loop decreases-loop
 joined-requires c κs =
     let turn = c.before in
-    (record { terms = turn.before.loop.invariant.0.terms (some turn); slots = (pick-facts _ _ (start_of turn).requires.0).slots }, turn.before.loop.invariant.1)
+    (record { terms = turn.before.loop.invariant.0.terms (some turn); slots = (pick_facts _ _ (start_of turn).requires.0).slots }, turn.before.loop.invariant.1)
 
 answer-requires : tie.Need-answer-requires invariant-loop decreases-loop
 answer-requires c κs =
     let turn = c.before.before.before.before.before in
     let inv = turn.before.loop.invariant.0 in
-    omega (arith, inv.terms (some turn), answered-bound inv.answered)
+    omega (arith, inv.terms (some turn), answered_bound inv.answered)
 
 returns : tie.Need-returns invariant-loop decreases-loop
 returns c =
@@ -61,7 +61,7 @@ returns c =
     let turn = tried.before.before in
     let start = start_of turn in
     rw c.answer.ensures
-    (passed-joins start.pre.1.0 start.pre.0 turn.before.loop.invariant.0 (some turn) (rw joins.if1.true at tried.joined.ensures.0))
+    (passed_joins start.pre.1.0 start.pre.0 turn.before.loop.invariant.0 (some turn) (rw joins.if1.true at tried.joined.ensures.0))
 
 same_length : tie.Need-same-length invariant-loop decreases-loop
 same_length c =
@@ -77,7 +77,7 @@ next-of-requires-2 c κs = search rules
 loop-less : tie.Need-loop-smaller invariant-loop decreases-loop
 loop-less c =
     let turn = c.before.before.before.before.before.before.before.before in
-    next-below turn.before.loop.rank (omega arith) (some turn) c.next-of2.ensures
+    next_below turn.before.loop.rank (omega arith) (some turn) c.next-of2.ensures
 
 loop-again : tie.Need-loop-preserved invariant-loop decreases-loop
 loop-again c =
@@ -86,9 +86,9 @@ loop-again c =
     let tried = fails.before.before.before in
     let turn = tried.before.before in
     let start = start_of turn in
-    let apart : start.args.told.order.n < 257 = omega (arith, pick-facts _ _ start.pre.0) in
+    let apart : start.args.told.order.n < 257 = omega (arith, pick_facts _ _ start.pre.0) in
     let more =
-    passed-more start.pre.1.0 start.pre.0 turn.before.loop.invariant.0 (some turn) mod257-field apart tried.joined.ensures.0 fails.if1.false
+    passed_more start.pre.1.0 start.pre.0 turn.before.loop.invariant.0 (some turn) mod257_field apart tried.joined.ensures.0 fails.if1.false
     c.next-of2.ensures in (
       ⊎_elim
           (λ w. rw (w.1, w.2) (more true (sym first.is-first.ensures ∙ w.0.taken)))
@@ -98,21 +98,21 @@ loop-again c =
     )
 
 answer-requires-2 : tie.Need-answer-requires-2 invariant-loop decreases-loop
-answer-requires-2 c κs = omega (arith, answered-bound c.before.loop.invariant.0.answered)
+answer-requires-2 c κs = omega (arith, answered_bound c.before.loop.invariant.0.answered)
 
-same-length-2 : tie.Need-same-length-2 invariant-loop decreases-loop
-same-length-2 c =
+same_length_2 : tie.Need-same-length-2 invariant-loop decreases-loop
+same_length_2 c =
     let last = c.before.before in
     last.loop.invariant.1.whole ∙ sym last.before.before.before.before.before.before.requires.1.1.1.whole
 
-returns-2 : tie.Need-returns-2 invariant-loop decreases-loop
-returns-2 c =
+returns_2 : tie.Need-returns-2 invariant-loop decreases-loop
+returns_2 c =
     let past = c.before in
     let start = past.before.before.before.before.before.before.before in
-    rw c.answer2.ensures (passed-all start.requires.1.0 start.requires.0 past.before.loop.invariant.0 past.loop-test.false)
+    rw c.answer2.ensures (passed_all start.requires.1.0 start.requires.0 past.before.loop.invariant.0 past.loop-test.false)
 
-pub go-down-spec : {M : Type 1} → statement M
-go-down-spec =
+pub go_down_spec : {M : Type 1} → statement M
+go_down_spec =
     tie.close
     (tie.spec
     invariant-loop
@@ -130,5 +130,5 @@ go-down-spec =
     loop-less
     loop-again
     answer-requires-2
-    same-length-2
-    returns-2)
+    same_length_2
+    returns_2)

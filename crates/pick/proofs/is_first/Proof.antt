@@ -9,8 +9,8 @@ returns : tie.Need-returns
 returns c = rw (eq-eqb _ 6 c.if1.true)
 
 -- it fails
-returns-2 : tie.Need-returns-2
-returns-2 c = rw (ne_eqb _ 6 c.if1.false)
+returns_2 : tie.Need-returns-2
+returns_2 c = rw (ne_eqb _ 6 c.if1.false)
 
-pub is-first-spec : {M : Type 1} → statement M
-is-first-spec = tie.close (tie.spec returns returns-2)
+pub is_first_spec : {M : Type 1} → statement M
+is_first_spec = tie.close (tie.spec returns returns_2)

@@ -3,14 +3,14 @@
 use mathlib.Core.Path.{◌≡◌, refl, sym, ◌∙◌}
 use native.Mathlib.Omega.{arith}
 use borrow.Author.Rules.{rules}
-use Rattle.lists.specs.Zeros.{below-zeros}
-use Rattle.pick.specs.Pick.{pickRefusal, refused}
-use Rattle.pick.specs.RefusalLaws.{pick-facts}
+use Rattle.lists.specs.Zeros.{below_zeros}
+use Rattle.pick.specs.Pick.{pick_refusal, refused}
+use Rattle.pick.specs.RefusalLaws.{pick_facts}
 use Rattle.pick.proofs.pick.Statement.{statement}
 use Rattle.pick.proofs.pick.Tie as tie
 
 -- past the first test the pick is not refused
-allowed : (c : tie.Else1) → pickRefusal c.before.before.before.args.told c.before.before.before.args.tray.now ≡ 0
+allowed : (c : tie.Else1) → pick_refusal c.before.before.before.args.told c.before.before.before.args.tray.now ≡ 0
 allowed c = sym c.before.refusal.ensures ∙ c.if1.false
 
 refusal-requires : tie.Need-refusal-requires
@@ -26,7 +26,7 @@ slice-aggregate-gather : tie.Need-slice-aggregate-gather
 slice-aggregate-gather c = search rules
 
 gather-requires : tie.Need-gather-requires
-gather-requires c κs = omega (arith, pick-facts _ _ (allowed c.before))
+gather-requires c κs = omega (arith, pick_facts _ _ (allowed c.before))
 
 slice-aggregate-go-down : tie.Need-slice-aggregate-go-down
 slice-aggregate-go-down c = search rules
@@ -38,10 +38,10 @@ go-down-requires : tie.Need-go-down-requires
 go-down-requires c κs =
     let gathered = c.before.before.before in
     let right = allowed gathered.before.before in
-    (right, (gathered.gather.ensures, (omega (arith, pick-facts _ _ right, gathered.gather.auto.1.1.0), record { whole = refl; words = below-zeros 256 15232 })))
+    (right, (gathered.gather.ensures, (omega (arith, pick_facts _ _ right, gathered.gather.auto.1.1.0), record { whole = refl; words = below_zeros 256 15232 })))
 
-returns-2 : tie.Need-returns-2
-returns-2 c = c.before.go-down.ensures
+returns_2 : tie.Need-returns-2
+returns_2 c = c.before.go-down.ensures
 
 pub pick_spec : {M : Type 1} → statement M
 pick_spec =
@@ -55,4 +55,4 @@ pick_spec =
     slice-aggregate-go-down
     slice-aggregate-go-down-2
     go-down-requires
-    returns-2)
+    returns_2)

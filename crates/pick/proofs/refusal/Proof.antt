@@ -4,8 +4,8 @@ use mathlib.Core.Path.{sym, ◌∙◌}
 use native.Mathlib.Omega.{arith}
 use borrow.Author.Rules.{rules}
 use borrow.Author.Tests.{eq-eqb, ne_eqb}
-use Rattle.header.specs.ToldLaws.{lawful-told-facts}
-use Rattle.pick.specs.Pick.{pickRefusal}
+use Rattle.header.specs.ToldLaws.{lawful_told_facts}
+use Rattle.pick.specs.Pick.{pick_refusal}
 use Rattle.pick.proofs.refusal.Statement.{statement}
 use Rattle.pick.proofs.refusal.Tie as tie
 
@@ -13,19 +13,19 @@ lawful-requires : tie.Need-lawful-requires
 lawful-requires c κs = search rules
 
 mul-if2 : tie.Need-overflow-mul-if2
-mul-if2 c = omega (arith, lawful-told-facts _ (sym c.before.before.lawful.ensures ∙ c.before.if1.true))
+mul-if2 c = omega (arith, lawful_told_facts _ (sym c.before.before.lawful.ensures ∙ c.before.if1.true))
 
 returns : tie.Need-returns
-unfolding pickRefusal
+unfolding pick_refusal
 returns c = rw (sym c.before.before.before.lawful.ensures ∙ c.before.before.if1.true, eq-eqb _ _ c.if2.true)
 
-returns-2 : tie.Need-returns-2
-unfolding pickRefusal
-returns-2 c = rw (sym c.before.before.before.lawful.ensures ∙ c.before.before.if1.true, ne_eqb _ _ c.if2.false)
+returns_2 : tie.Need-returns-2
+unfolding pick_refusal
+returns_2 c = rw (sym c.before.before.before.lawful.ensures ∙ c.before.before.if1.true, ne_eqb _ _ c.if2.false)
 
-returns-3 : tie.Need-returns-3
-unfolding pickRefusal
-returns-3 c = rw (sym c.before.lawful.ensures ∙ c.if1.false)
+returns_3 : tie.Need-returns-3
+unfolding pick_refusal
+returns_3 c = rw (sym c.before.lawful.ensures ∙ c.if1.false)
 
-pub refusal-spec : {M : Type 1} → statement M
-refusal-spec = tie.close (tie.spec lawful-requires mul-if2 returns returns-2 returns-3)
+pub refusal_spec : {M : Type 1} → statement M
+refusal_spec = tie.close (tie.spec lawful-requires mul-if2 returns returns_2 returns_3)

@@ -26,8 +26,8 @@ cast-t10 c = omega (arith, c.shared-slice-known3.given 2)
 returns : tie.Need-returns
 returns c = search rules
 
-pub order-in-spec : {M : Type 1} → statement M
-order-in-spec =
+pub order_in_spec : {M : Type 1} → statement M
+order_in_spec =
     tie.close
     (tie.spec
     shared-slice-read-t3

@@ -3,7 +3,7 @@
 use native.Mathlib.Omega.{arith}
 use lib.ListN.{get_or}
 use borrow.Author.Rules.{rules}
-use Rattle.report_text.proofs.Reporting.{short-reported}
+use Rattle.report_text.proofs.Reporting.{short_reported}
 use Rattle.report_text.proofs.report.Statement.{statement}
 use Rattle.report_text.proofs.report.Tie as tie
 
@@ -14,7 +14,7 @@ answer-alone-requires : tie.Need-answer-alone-requires
 answer-alone-requires c κs = search rules
 
 returns : tie.Need-returns
-returns c = short-reported c.before.before.before.if1.true (rw c.before.short-number.ensures at c.answer-alone.ensures)
+returns c = short_reported c.before.before.before.if1.true (rw c.before.short-number.ensures at c.answer-alone.ensures)
 
 order-in-requires : tie.Need-order-in-requires
 order-in-requires c κs = search rules
@@ -30,11 +30,11 @@ report-picked-requires c κs =
     let input = c.before.before.before.before.before.args.input.now in
     (omega arith, (λ i. record { order = c.before.before.order-in.ensures i; key = get_or input 3 0 }, search rules))
 
-returns-2 : tie.Need-returns-2
-returns-2 c = c.report-picked.ensures
+returns_2 : tie.Need-returns-2
+returns_2 c = c.report-picked.ensures
 
-pub report-spec : {M : Type 1} → statement M
-report-spec =
+pub report_spec : {M : Type 1} → statement M
+report_spec =
     tie.close
     (tie.spec
     short-number-requires
@@ -44,4 +44,4 @@ report-spec =
     shared-slice-read-t11
     cast-t5
     report-picked-requires
-    returns-2)
+    returns_2)

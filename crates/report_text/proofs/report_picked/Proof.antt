@@ -6,9 +6,9 @@ use mathlib.Core.Bool.{true}
 use native.Mathlib.Omega.{arith}
 use lib.ListN.{length, take, drop}
 use borrow.Author.Rules.{rules}
-use Rattle.report_text.specs.PickedLaws.{picked-joinable}
-use Rattle.report_text.specs.Report.{hasLines}
-use Rattle.report_text.proofs.Reporting.{PickedOf, unpicked-reported, joined-reported, all_of}
+use Rattle.report_text.specs.PickedLaws.{picked_joinable}
+use Rattle.report_text.specs.Report.{has_lines}
+use Rattle.report_text.proofs.Reporting.{PickedOf, unpicked_reported, joined_reported, all_of}
 use Rattle.report_text.proofs.report_picked.Statement.{statement}
 use Rattle.report_text.proofs.report_picked.Tie as tie
 
@@ -31,14 +31,14 @@ has-lines-requires c κs = search rules
 of-input : (c : tie.After-pick) → (let a = c.before.before.before.before.args in PickedOf a.input.now a.told (take (length a.input.now - 4) (drop 4 a.input.now)) c.pick.result)
 of-input c =
     let a = c.before.before.before.before in
-    record { whole = a.requires.0; of = a.requires.1.0; in-it = all_of a.args.input.now 4; pick = c.pick.ensures }
+    record { whole = a.requires.0; of = a.requires.1.0; in_it = all_of a.args.input.now 4; pick = c.pick.ensures }
 
 -- the lines are written with this number
-lines-so : (c : tie.Then1) → hasLines c.before.before.pick.result.number ≡ true
+lines-so : (c : tie.Then1) → has_lines c.before.before.pick.result.number ≡ true
 lines-so c = sym c.before.has-lines.ensures ∙ c.if1.true
 
 report-joined-requires : tie.Need-report-joined-requires
-report-joined-requires c κs = (picked-joinable c.before.before.before.pick.ensures (lines-so c.before), omega arith)
+report-joined-requires c κs = (picked_joinable c.before.before.before.pick.ensures (lines-so c.before), omega arith)
 
 same_length : tie.Need-same-length
 same_length c = search rules
@@ -47,22 +47,22 @@ returns : tie.Need-returns
 returns c =
     let join = c.before.before in
     let way = join.before.before in
-    joined-reported (of-input way.before.before) (lines-so way) join.report-joined.ensures
+    joined_reported (of-input way.before.before) (lines-so way) join.report-joined.ensures
 
 answer-alone-requires : tie.Need-answer-alone-requires
 answer-alone-requires c κs = search rules
 
-same-length-2 : tie.Need-same-length-2
-same-length-2 c = search rules
+same_length_2 : tie.Need-same-length-2
+same_length_2 c = search rules
 
-returns-2 : tie.Need-returns-2
-returns-2 c =
+returns_2 : tie.Need-returns-2
+returns_2 c =
     let line = c.before.before in
     let way = line.before.before in
-    unpicked-reported (of-input way.before.before) (sym way.before.has-lines.ensures ∙ way.if1.false) line.answer-alone.ensures
+    unpicked_reported (of-input way.before.before) (sym way.before.has-lines.ensures ∙ way.if1.false) line.answer-alone.ensures
 
-pub report-picked-spec : {M : Type 1} → statement M
-report-picked-spec =
+pub report_picked_spec : {M : Type 1} → statement M
+report_picked_spec =
     tie.close
     (tie.spec
     sub-tray
@@ -74,5 +74,5 @@ report-picked-spec =
     same_length
     returns
     answer-alone-requires
-    same-length-2
-    returns-2)
+    same_length_2
+    returns_2)

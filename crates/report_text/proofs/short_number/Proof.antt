@@ -15,12 +15,12 @@ order-in-requires c κs = search rules
 lawful-requires : tie.Need-lawful-requires
 lawful-requires c κs = search rules
 
-returns-2 : tie.Need-returns-2
-returns-2 c = rw (le-ltb _ 3 c.before.before.before.if1.false, ← c.before.before.order-in.ensures, sym c.before.lawful.ensures ∙ c.if2.true)
+returns_2 : tie.Need-returns-2
+returns_2 c = rw (le-ltb _ 3 c.before.before.before.if1.false, ← c.before.before.order-in.ensures, sym c.before.lawful.ensures ∙ c.if2.true)
 
-returns-3 : tie.Need-returns-3
-returns-3 c = rw (le-ltb _ 3 c.before.before.before.if1.false, ← c.before.before.order-in.ensures, sym c.before.lawful.ensures ∙ c.if2.false)
+returns_3 : tie.Need-returns-3
+returns_3 c = rw (le-ltb _ 3 c.before.before.before.if1.false, ← c.before.before.order-in.ensures, sym c.before.lawful.ensures ∙ c.if2.false)
 
-pub short-number-spec : {M : Type 1} → statement M
-short-number-spec =
-    tie.close (tie.spec returns order-in-requires lawful-requires returns-2 returns-3)
+pub short_number_spec : {M : Type 1} → statement M
+short_number_spec =
+    tie.close (tie.spec returns order-in-requires lawful-requires returns_2 returns_3)

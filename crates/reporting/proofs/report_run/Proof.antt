@@ -30,11 +30,11 @@ slice-aggregate-write-report c = search rules
 write-report-requires : tie.Need-write-report-requires
 write-report-requires c κs = search rules
 
-returns-2 : tie.Need-returns-2
-returns-2 c = search rules
+returns_2 : tie.Need-returns-2
+returns_2 c = search rules
 
-pub report-run-spec : {M : Type 1} → statement M
-report-run-spec =
+pub report_run_spec : {M : Type 1} → statement M
+report_run_spec =
     tie.close
     (tie.spec
     arg-count-requires
@@ -45,4 +45,4 @@ report-run-spec =
     array-share-prefix-input
     slice-aggregate-write-report
     write-report-requires
-    returns-2)
+    returns_2)

@@ -14,8 +14,8 @@ cast-result c = search rules
 returns : tie.Need-returns
 returns c = rw c.if1.true (to_z_pos w32 (omega arith))
 
-returns-2 : tie.Need-returns-2
-returns-2 c = rw c.if1.false refl
+returns_2 : tie.Need-returns-2
+returns_2 c = rw c.if1.false refl
 
-pub status-of-spec : {M : Type 1} → statement M
-status-of-spec = tie.close (tie.spec cast-result returns returns-2)
+pub status_of_spec : {M : Type 1} → statement M
+status_of_spec = tie.close (tie.spec cast-result returns returns_2)

@@ -2,7 +2,7 @@
 -- Assumes nothing.
 use borrow.Author.Rules.{rules}
 use Rattle.io.proofs.Counting.{prefix_len_of_le}
-use Rattle.report_text.specs.NumberLaws.{number-most}
+use Rattle.report_text.specs.NumberLaws.{number_most}
 use Rattle.reporting.proofs.Ending.{within, ended}
 use Rattle.reporting.proofs.write_report.Statement.{statement}
 use Rattle.reporting.proofs.write_report.Tie as tie
@@ -20,15 +20,15 @@ wrote-requires : tie.Need-wrote-requires
 wrote-requires c κs = search rules
 
 status-of-requires : tie.Need-status-of-requires
-status-of-requires c κs = number-most c.before.before.report.ensures.right
+status-of-requires c κs = number_most c.before.before.report.ensures.right
 
 returns : tie.Need-returns
 returns c =
     let writing = c.before in
     ended writing.wrote.result writing.before.before.report.ensures.right c.status-of.ensures
 
-pub write-report-spec : {M : Type 1} → statement M
-write-report-spec =
+pub write_report_spec : {M : Type 1} → statement M
+write_report_spec =
     tie.close
     (tie.spec
     report-requires

@@ -9,12 +9,12 @@ use borrow.Author.Tests.{not-true, not-false}
 use borrow.Fn.Kinds.{In}
 use borrow.Fn.PlainCycle.{Measures}
 use Rattle.lists.specs.KeeperSet.{member}
-use Rattle.lists.specs.KeeperSetLaws.{joined-below}
-use Rattle.lists.specs.Recursion.{givenAt, askedBelow}
+use Rattle.lists.specs.KeeperSetLaws.{joined_below}
+use Rattle.lists.specs.Recursion.{given_at, asked_below}
 use Rattle.field.specs.Modulo.{mod257}
-use Rattle.search.specs.Finds.{finds-some}
+use Rattle.search.specs.Finds.{finds_some}
 use Rattle.search.specs.Search.{word, Sought}
-use Rattle.search.specs.SearchLaws.{search-done, search-past, search-outside, Missed, search-stuck, search-skipped, sought-past, sought-joined}
+use Rattle.search.specs.SearchLaws.{search_done, search_past, search_outside, Missed, search_stuck, search_skipped, sought_past, sought_joined}
 use Rattle.search.proofs.search.Reads as reads
 use Rattle.search.proofs.search.Kinds as kinds
 use Rattle.search.proofs.+search.Lts-search as lts
@@ -29,58 +29,58 @@ abbrev μ-search : Measures 1 kinds.ps ℕ
 
 module _ (t : ℕ) where
   abbrev given : In 1 kinds.ps
-  given = givenAt 1 kinds.ps μ-search reads.Pre t
+  given = given_at 1 kinds.ps μ-search reads.Pre t
 
   abbrev calls : lts.Claims
-  calls = (tried-reads.Asked, tried-reads.Learnt, has-reads.Asked, has-reads.Learnt, askedBelow 1 kinds.ps μ-search reads.Pre t, reads.Post, alone-reads.Asked, alone-reads.Learnt)
+  calls = (tried-reads.Asked, tried-reads.Learnt, has-reads.Asked, has-reads.Learnt, asked_below 1 kinds.ps μ-search reads.Pre t, reads.Post, alone-reads.Asked, alone-reads.Learnt)
 
-  tried-requires : lts.Need-tried-requires calls given reads.Post
-  tried-requires c κs = search rules
+  tried_requires : lts.Need-tried-requires calls given reads.Post
+  tried_requires c κs = search rules
 
   returns : lts.Need-returns calls given reads.Post
-  returns c = search-done c.tried.ensures
+  returns c = search_done c.tried.ensures
 
-  returns-2 : lts.Need-returns-2 calls given reads.Post
-  returns-2 c = search-past (omega arith) (omega arith)
+  returns_2 : lts.Need-returns-2 calls given reads.Post
+  returns_2 c = search_past (omega arith) (omega arith)
 
-  has-requires : lts.Need-has-requires calls given reads.Post
-  has-requires c κs = search rules
+  has_requires : lts.Need-has-requires calls given reads.Post
+  has_requires c κs = search rules
 
-  add-search : lts.Need-overflow-add-search calls given reads.Post
-  add-search c = search rules
+  add_search : lts.Need-overflow-add-search calls given reads.Post
+  add_search c = search rules
 
   -- past the next keeper the same is sought
   past : (c : lts.Else2 calls given reads.Post) → (let a = c.before.before.before.args in Sought a.t a.need a.base a.lack (a.next + 1))
-  past c = sought-past c.before.before.before.requires.1.1 c.if2.false
+  past c = sought_past c.before.before.before.requires.1.1 c.if2.false
 
-  search-requires : lts.Need-search-requires calls given reads.Post
-  search-requires c κs = let sought = past c.before.before in search rules
+  search_requires : lts.Need-search-requires calls given reads.Post
+  search_requires c κs = let sought = past c.before.before in search rules
 
-  returns-3 : lts.Need-returns-3 calls given reads.Post
-  returns-3 c = search-outside (sym c.before.before.has.ensures ∙ not-true _ c.before.if3.true) c.search.ensures
+  returns_3 : lts.Need-returns-3 calls given reads.Post
+  returns_3 c = search_outside (sym c.before.before.has.ensures ∙ not-true _ c.before.if3.true) c.search.ensures
 
-  alone-requires : lts.Need-alone-requires calls given reads.Post
-  alone-requires c κs = search rules
+  alone_requires : lts.Need-alone-requires calls given reads.Post
+  alone_requires c κs = search rules
 
-  add-search-2 : lts.Need-overflow-add-search-2 calls given reads.Post
-  add-search-2 c =
+  add_search_2 : lts.Need-overflow-add-search-2 calls given reads.Post
+  add_search_2 c =
       let a = c.before.before.before.before.before.before in
-      record { fits = rw c.alone.ensures (joined-below a.args.base a.args.next a.requires.1.1.before 16 c.before.before.before.if2.false) }
+      record { fits = rw c.alone.ensures (joined_below a.args.base a.args.next a.requires.1.1.before 16 c.before.before.before.if2.false) }
 
-  sub-search : lts.Need-overflow-sub-search calls given reads.Post
-  sub-search c = search rules
+  sub_search : lts.Need-overflow-sub-search calls given reads.Post
+  sub_search c = search rules
 
-  add-search-3 : lts.Need-overflow-add-search-3 calls given reads.Post
-  add-search-3 c = search rules
+  add_search_3 : lts.Need-overflow-add-search-3 calls given reads.Post
+  add_search_3 c = search rules
 
-  search-requires-2 : lts.Need-search-requires-2 calls given reads.Post
-  search-requires-2 c κs =
+  search_requires_2 : lts.Need-search-requires-2 calls given reads.Post
+  search_requires_2 c κs =
       let a = c.before.before.before.before.before.before in
-      let sought = sought-joined a.requires.1.1 c.before.before.before.if2.false c.alone.result c.alone.ensures c.before.before.before.before.if1.false in
+      let sought = sought_joined a.requires.1.1 c.before.before.before.if2.false c.alone.result c.alone.ensures c.before.before.before.before.if1.false in
       search rules
 
-  returns-4 : lts.Need-returns-4 calls given reads.Post
-  returns-4 c = finds-some c.if4.true (c.before.search2.ensures.sound c.if4.true)
+  returns_4 : lts.Need-returns-4 calls given reads.Post
+  returns_4 c = finds_some c.if4.true (c.before.search2.ensures.sound c.if4.true)
 
   -- nothing was found with this keeper in the base
   missed : (c : lts.Else4 calls given reads.Post) → (let a = c.before.before.before.before.before.before.before.before.args in Missed mod257 a.t 16 a.need (member a.among) (word a.words.now) a.base a.next a.skips)
@@ -93,20 +93,20 @@ module _ (t : ℕ) where
         searched = rw (c.if4.false, c.before.before.alone.ensures) at c.before.search2.ensures;
       }
 
-  returns-5 : lts.Need-returns-5 calls given reads.Post
-  returns-5 c = search-stuck (missed c.before) c.if5.true
+  returns_5 : lts.Need-returns-5 calls given reads.Post
+  returns_5 c = search_stuck (missed c.before) c.if5.true
 
-  add-search-4 : lts.Need-overflow-add-search-4 calls given reads.Post
-  add-search-4 c = search rules
+  add_search_4 : lts.Need-overflow-add-search-4 calls given reads.Post
+  add_search_4 c = search rules
 
-  sub-search-2 : lts.Need-overflow-sub-search-2 calls given reads.Post
-  sub-search-2 c = search rules
+  sub_search_2 : lts.Need-overflow-sub-search-2 calls given reads.Post
+  sub_search_2 c = search rules
 
-  search-requires-3 : lts.Need-search-requires-3 calls given reads.Post
-  search-requires-3 c κs = let sought = past c.before.before.before.before.before.before in search rules
+  search_requires_3 : lts.Need-search-requires-3 calls given reads.Post
+  search_requires_3 c κs = let sought = past c.before.before.before.before.before.before in search rules
 
-  returns-6 : lts.Need-returns-6 calls given reads.Post
-  returns-6 c = search-skipped (missed c.before.before) c.search3.ensures
+  returns_6 : lts.Need-returns-6 calls given reads.Post
+  returns_6 c = search_skipped (missed c.before.before) c.search3.ensures
 
   spec : {M : Type 1} → lts.Closed calls given reads.Post M
   spec =
@@ -114,24 +114,24 @@ module _ (t : ℕ) where
       calls
       given
       reads.Post
-      tried-requires
+      tried_requires
       returns
-      returns-2
-      has-requires
-      add-search
-      search-requires
-      returns-3
-      alone-requires
-      add-search-2
-      sub-search
-      add-search-3
-      search-requires-2
-      returns-4
-      returns-5
-      add-search-4
-      sub-search-2
-      search-requires-3
-      returns-6
+      returns_2
+      has_requires
+      add_search
+      search_requires
+      returns_3
+      alone_requires
+      add_search_2
+      sub_search
+      add_search_3
+      search_requires_2
+      returns_4
+      returns_5
+      add_search_4
+      sub_search_2
+      search_requires_3
+      returns_6
 
 pub +search-spec : {M : Type 1} → statement M
 +search-spec = close μ-search (λ t. spec t)

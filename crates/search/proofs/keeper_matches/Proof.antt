@@ -10,8 +10,8 @@ use borrow.Author.Rules.{rules}
 use Rattle.search.proofs.keeper_matches.Statement.{statement}
 use Rattle.search.proofs.keeper_matches.Tie as tie
 
-has-requires : tie.Need-has-requires
-has-requires c κs = search rules
+has_requires : tie.Need-has-requires
+has_requires c κs = search rules
 
 cast-carry-word : tie.Need-overflow-cast-carry-word
 cast-carry-word c = search rules
@@ -28,30 +28,30 @@ mul-result c = search rules
 shared-slice-read-result : tie.Need-shared-slice-read-result
 shared-slice-read-result c = search rules
 
-second-decides : (m : Bool) (r v w w' : ℕ) → m ≡ true → r ≡ v → w ≡ w' → eqb r w ≡ (m && eqb v w')
-second-decides m r v w w' e f g = rw (e, f, g)
+second_decides : (m : Bool) (r v w w' : ℕ) → m ≡ true → r ≡ v → w ≡ w' → eqb r w ≡ (m && eqb v w')
+second_decides m r v w w' e f g = rw (e, f, g)
 
-first-fails : (r m b : Bool) → r ≡ m → r ≡ false → r ≡ (m && b)
-first-fails r m b e f = rw (← e, f)
+first_fails : (r m b : Bool) → r ≡ m → r ≡ false → r ≡ (m && b)
+first_fails r m b e f = rw (← e, f)
 
 returns : tie.Need-returns
 returns c =
     let a = c.before.before.before.before.before.before.args in
-    second-decides _ _ _ _ _ (sym c.before.before.before.has.ensures ∙ c.before.before.if1.true) c.before.carry-word.ensures
+    second_decides _ _ _ _ _ (sym c.before.before.before.has.ensures ∙ c.before.before.if1.true) c.before.carry-word.ensures
     (ap (λ (i : ℕ). get_or a.words.now i 0) (sym (add-sub_cancel a.k 1)))
 
-returns-2 : tie.Need-returns-2
-returns-2 c = first-fails _ _ _ c.before.has.ensures c.if1.false
+returns_2 : tie.Need-returns-2
+returns_2 c = first_fails _ _ _ c.before.has.ensures c.if1.false
 
-pub keeper-matches-spec : {M : Type 1} → statement M
-keeper-matches-spec =
+pub keeper_matches_spec : {M : Type 1} → statement M
+keeper_matches_spec =
     tie.close
     (tie.spec
-    has-requires
+    has_requires
     cast-carry-word
     add-carry-word
     carry-word-requires
     mul-result
     shared-slice-read-result
     returns
-    returns-2)
+    returns_2)

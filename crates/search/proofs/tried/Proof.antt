@@ -3,13 +3,13 @@
 use Prim.Native.Nat.{◌-◌}
 use native.Mathlib.Omega.{arith}
 use borrow.Author.Rules.{rules}
-use Rattle.lists.specs.Below.{below-any}
+use Rattle.lists.specs.Below.{below_any}
 use Rattle.lists.specs.KeeperSet.{member}
-use Rattle.field.specs.Laws.{mod257-field}
+use Rattle.field.specs.Laws.{mod257_field}
 use Rattle.field.specs.Modulo.{mod257}
-use Rattle.search.specs.Base.{base-length, base-keepers, keeper-points}
+use Rattle.search.specs.Base.{base_length, base_keepers, keeper_points}
 use Rattle.search.specs.Search.{word}
-use Rattle.search.specs.TriedLaws.{Tried, tried-enough, tried-short}
+use Rattle.search.specs.TriedLaws.{Tried, tried_enough, tried_short}
 use Rattle.search.proofs.tried.Statement.{statement}
 use Rattle.search.proofs.tried.Tie as tie
 
@@ -23,10 +23,10 @@ array-share-prefix-points : tie.Need-array-share-prefix-points
 array-share-prefix-points c = search rules
 
 slice-aggregate-matching : tie.Need-slice-aggregate-matching
-slice-aggregate-matching c = omega (arith, base-length c.before.first.ensures)
+slice-aggregate-matching c = omega (arith, base_length c.before.first.ensures)
 
 matching-requires : tie.Need-matching-requires
-matching-requires c κs = (base-keepers c.before.first.ensures, search rules)
+matching-requires c κs = (base_keepers c.before.first.ensures, search rules)
 
 -- what was tried, whether enough match or not
 tried : (c : tie.After-matching) → (let a = c.before.before.before.before.args in Tried mod257 a.t 16 a.need (member a.among) (member a.base) (word a.words.now) c.matching.result)
@@ -36,18 +36,18 @@ tried c =
       points = _;
       first = c.before.before.first.ensures;
       carries = c.matching.ensures;
-      below = λ x. below-any 257 a.args.words.now (omega arith) a.requires.0.below (x - 1);
+      below = λ x. below_any 257 a.args.words.now (omega arith) a.requires.0.below (x - 1);
       positive = a.requires.1.1.0;
     }
 
 returns : tie.Need-returns
-returns c = tried-enough mod257-field keeper-points (tried c.before) c.if1.true
+returns c = tried_enough mod257_field keeper_points (tried c.before) c.if1.true
 
-returns-2 : tie.Need-returns-2
-returns-2 c = tried-short mod257-field keeper-points (tried c.before) c.if1.false
+returns_2 : tie.Need-returns-2
+returns_2 c = tried_short mod257_field keeper_points (tried c.before) c.if1.false
 
-pub tried-spec : {M : Type 1} → statement M
-tried-spec =
+pub tried_spec : {M : Type 1} → statement M
+tried_spec =
     tie.close
     (tie.spec
     first-requires
@@ -56,4 +56,4 @@ tried-spec =
     slice-aggregate-matching
     matching-requires
     returns
-    returns-2)
+    returns_2)

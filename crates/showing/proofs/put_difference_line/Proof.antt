@@ -4,9 +4,9 @@ use native.Mathlib.Omega.{arith}
 use borrow.Author.Rules.{rules}
 use Rattle.lists.specs.Listed.{listed}
 use Rattle.lines.specs.Text.{text}
-use Rattle.lines.specs.Written.{written-more}
-use Rattle.showing.specs.Lines.{named, differenceLine}
-use Rattle.showing.proofs.Shown.{written-pair, counted}
+use Rattle.lines.specs.Written.{written_more}
+use Rattle.showing.specs.Lines.{named, difference_line}
+use Rattle.showing.proofs.Shown.{written_pair, counted}
 use Rattle.showing.proofs.put_difference_line.Statement.{statement}
 use Rattle.showing.proofs.put_difference_line.Tie as tie
 
@@ -41,19 +41,19 @@ put-requires : tie.Need-put-requires
 put-requires c κs = search rules
 
 returns : tie.Need-returns
-unfolding differenceLine text listed
+unfolding difference_line text listed
 returns c =
     let three = c.before.before.before in
     let two = three.before.before.before.before in
     let one = two.before.before.before.before in
     let args = one.before.before.before.args in
     counted (omega arith)
-    (written-more (omega arith) one.put-named.ensures.0
-    (written-pair (named " block " args.block) (named " word " args.word) (omega arith) two.put-pair.ensures.0
-    (written-pair (named ": " args.first) (named " became " args.second) (omega arith) three.put-pair2.ensures.0 c.put.ensures)))
+    (written_more (omega arith) one.put-named.ensures.0
+    (written_pair (named " block " args.block) (named " word " args.word) (omega arith) two.put-pair.ensures.0
+    (written_pair (named ": " args.first) (named " became " args.second) (omega arith) three.put-pair2.ensures.0 c.put.ensures)))
 
-pub put-difference-line-spec : {M : Type 1} → statement M
-put-difference-line-spec =
+pub put_difference_line_spec : {M : Type 1} → statement M
+put_difference_line_spec =
     tie.close
     (tie.spec
     slice-aggregate-put-named

@@ -4,9 +4,9 @@ use native.Mathlib.Omega.{arith}
 use borrow.Author.Rules.{rules}
 use Rattle.lists.specs.Listed.{listed}
 use Rattle.lines.specs.Text.{text}
-use Rattle.lines.specs.Written.{written-more}
-use Rattle.showing.specs.Lines.{named, keyLine}
-use Rattle.showing.proofs.Shown.{written-pair, counted}
+use Rattle.lines.specs.Written.{written_more}
+use Rattle.showing.specs.Lines.{named, key_line}
+use Rattle.showing.proofs.Shown.{written_pair, counted}
 use Rattle.showing.proofs.put_key_line.Statement.{statement}
 use Rattle.showing.proofs.put_key_line.Tie as tie
 
@@ -35,19 +35,19 @@ put-requires-2 : tie.Need-put-requires-2
 put-requires-2 c κs = search rules
 
 returns : tie.Need-returns
-unfolding keyLine text listed
+unfolding key_line text listed
 returns c =
     let three = c.before.before.before in
     let two = three.before.before.before.before in
     let one = two.before.before.before in
     let args = one.before.before.before.args in
     counted (omega arith)
-    (written-more (omega arith) one.put.ensures
-    (written-more (omega arith) two.put-named.ensures.0
-    (written-pair (named " stamp " args.stamp) (named " length " args.l) (omega arith) three.put-pair.ensures.0 c.put2.ensures)))
+    (written_more (omega arith) one.put.ensures
+    (written_more (omega arith) two.put-named.ensures.0
+    (written_pair (named " stamp " args.stamp) (named " length " args.l) (omega arith) three.put-pair.ensures.0 c.put2.ensures)))
 
-pub put-key-line-spec : {M : Type 1} → statement M
-put-key-line-spec =
+pub put_key_line_spec : {M : Type 1} → statement M
+put_key_line_spec =
     tie.close
     (tie.spec
     put-requires

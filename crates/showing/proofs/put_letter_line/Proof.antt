@@ -4,9 +4,9 @@ use native.Mathlib.Omega.{arith}
 use borrow.Author.Rules.{rules}
 use Rattle.lists.specs.Listed.{listed}
 use Rattle.lines.specs.Text.{text}
-use Rattle.lines.specs.Written.{written-more}
-use Rattle.showing.specs.Lines.{named, letterLine}
-use Rattle.showing.proofs.Shown.{written-pair, counted}
+use Rattle.lines.specs.Written.{written_more}
+use Rattle.showing.specs.Lines.{named, letter_line}
+use Rattle.showing.proofs.Shown.{written_pair, counted}
 use Rattle.showing.proofs.put_letter_line.Statement.{statement}
 use Rattle.showing.proofs.put_letter_line.Tie as tie
 
@@ -50,7 +50,7 @@ put-requires : tie.Need-put-requires
 put-requires c κs = search rules
 
 returns : tie.Need-returns
-unfolding letterLine text listed
+unfolding letter_line text listed
 returns c =
     let four = c.before.before.before in
     let three = four.before.before.before.before in
@@ -58,13 +58,13 @@ returns c =
     let one = two.before.before.before.before in
     let args = one.before.before.before.args in
     counted (omega arith)
-    (written-more (omega arith) one.put-named.ensures.0
-    (written-pair (named "," args.f) (named "," args.n) (omega arith) two.put-pair.ensures.0
-    (written-pair (named " key " args.key) (named " keeper " args.keeper) (omega arith) three.put-pair2.ensures.0
-    (written-pair (named " stamp " args.stamp) (named " length " args.l) (omega arith) four.put-pair3.ensures.0 c.put.ensures))))
+    (written_more (omega arith) one.put-named.ensures.0
+    (written_pair (named "," args.f) (named "," args.n) (omega arith) two.put-pair.ensures.0
+    (written_pair (named " key " args.key) (named " keeper " args.keeper) (omega arith) three.put-pair2.ensures.0
+    (written_pair (named " stamp " args.stamp) (named " length " args.l) (omega arith) four.put-pair3.ensures.0 c.put.ensures))))
 
-pub put-letter-line-spec : {M : Type 1} → statement M
-put-letter-line-spec =
+pub put_letter_line_spec : {M : Type 1} → statement M
+put_letter_line_spec =
     tie.close
     (tie.spec
     slice-aggregate-put-named

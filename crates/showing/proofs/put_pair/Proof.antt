@@ -2,7 +2,7 @@
 -- Assumes nothing.
 use native.Mathlib.Omega.{arith}
 use borrow.Author.Rules.{rules}
-use Rattle.lines.specs.Written.{written-more}
+use Rattle.lines.specs.Written.{written_more}
 use Rattle.showing.proofs.put_pair.Statement.{statement}
 use Rattle.showing.proofs.put_pair.Tie as tie
 
@@ -19,7 +19,7 @@ returns : tie.Need-returns
 returns c =
     let two = c.before.before in
     let one = two.before.before.before.before in
-    (written-more (omega arith) one.put-named.ensures.0 two.put-named2.ensures.0, omega arith)
+    (written_more (omega arith) one.put-named.ensures.0 two.put-named2.ensures.0, omega arith)
 
-pub put-pair-spec : {M : Type 1} → statement M
-put-pair-spec = tie.close (tie.spec put-named-requires put-named-requires-2 same_length returns)
+pub put_pair_spec : {M : Type 1} → statement M
+put_pair_spec = tie.close (tie.spec put-named-requires put-named-requires-2 same_length returns)

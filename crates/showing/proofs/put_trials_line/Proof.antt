@@ -4,8 +4,8 @@ use native.Mathlib.Omega.{arith}
 use borrow.Author.Rules.{rules}
 use Rattle.lists.specs.Listed.{listed}
 use Rattle.lines.specs.Text.{text}
-use Rattle.lines.specs.Written.{written-more}
-use Rattle.showing.specs.Lines.{trialsLine}
+use Rattle.lines.specs.Written.{written_more}
+use Rattle.showing.specs.Lines.{trials_line}
 use Rattle.showing.proofs.Shown.{counted}
 use Rattle.showing.proofs.put_trials_line.Statement.{statement}
 use Rattle.showing.proofs.put_trials_line.Tie as tie
@@ -23,13 +23,13 @@ put-requires : tie.Need-put-requires
 put-requires c κs = search rules
 
 returns : tie.Need-returns
-unfolding trialsLine text listed
+unfolding trials_line text listed
 returns c =
     let number = c.before.before.before in
-    counted (omega arith) (written-more (omega arith) number.put-named.ensures.0 c.put.ensures)
+    counted (omega arith) (written_more (omega arith) number.put-named.ensures.0 c.put.ensures)
 
-pub put-trials-line-spec : {M : Type 1} → statement M
-put-trials-line-spec =
+pub put_trials_line_spec : {M : Type 1} → statement M
+put_trials_line_spec =
     tie.close
     (tie.spec
     slice-aggregate-put-named

@@ -72,11 +72,11 @@ R = T.the_row
 abbrev Path : RattleType
 Path = Array u8 4096
 
-abbrev path-slot : Slot 1
-path-slot = RefOf (0 ∷ []) tt (ArrayOf (plain (λ _. u8)) (λ _. tt) 4096) (λ _. tt)
+abbrev path_slot : Slot 1
+path_slot = RefOf (0 ∷ []) tt (ArrayOf (plain (λ _. u8)) (λ _. tt) 4096) (λ _. tt)
 
 abbrev stayed : Stays (filled.ended).signature.params (filled.ended).kept
-stayed = (stay_dropped path-slot yes, (stay_dropped (plain (λ _. bool)) yes, (stay_dropped (plain (λ _. R)) yes, tt)))
+stayed = (stay_dropped path_slot yes, (stay_dropped (plain (λ _. bool)) yes, (stay_dropped (plain (λ _. R)) yes, tt)))
 
 abbrev val : Stat → Val
 val = LL.val T.the_type T'.the_laws
@@ -88,8 +88,8 @@ Fine x = Is R x (val x ∷ [])
 abbrev answer : ℤ → Stat → Seen
 answer r z = record { status = r; mode = z.st_mode; owner = z.st_uid; group = z.st_gid }
 
-fine-answer : (r : ℤ) (z : Stat) → Is i32 r (vint w32 (of_z w32 r) ∷ []) → Fine z → Is S.the_row (answer r z) (LL.vals S.the_type S'.the_laws (answer r z))
-fine-answer r z is fine =
+fine_answer : (r : ℤ) (z : Stat) → Is i32 r (vint w32 (of_z w32 r) ∷ []) → Fine z → Is S.the_row (answer r z) (LL.vals S.the_type S'.the_laws (answer r z))
+fine_answer r z is fine =
     let fields = LL.owed T.the_type T'.the_laws z _ fine in
     LL.owes S.the_type S'.the_laws (answer r z) (is, (fields.1.1.1.0, (fields.1.1.1.1.0, (fields.1.1.1.1.1.0, tt))))
 
@@ -137,7 +137,7 @@ module _ {M : Type 1} {𝓤 : Ura M} (𝓛 : Logic 𝓤) (mem'' : Memory → SPr
   exits r z s is fine =
       qed 𝓛 (‵ (flft κ q) ∷ []) ∵
       suffices ! _ (ends_at 𝓛 filled.ended stayed (filled.clauses 𝓛 mem'' run) (((κ, tt), (q, tt), tt, a, vals), tt) _ (answer r z) (tt, (tt, (tt, tt))) (tt, (tt, (tt, tt)))) $ says ! s $
-      owned ! S.the_row (Is S.the_row) (LL.makes S.the_type S'.the_plain 𝓛) (answer r z) _ (fine-answer r z is fine) $ nothing ! $ nothing ! $ fjoin ! $ nothing ! $ fjoin ! $ nothing ! $ fjoin ! $
+      owned ! S.the_row (Is S.the_row) (LL.makes S.the_type S'.the_plain 𝓛) (answer r z) _ (fine_answer r z is fine) $ nothing ! $ nothing ! $ fjoin ! $ nothing ! $ fjoin ! $ nothing ! $ fjoin ! $
       nothing ! $ move ! (3 ∷ 0 ∷ []) $ join ! $ done !
 
   -- the struct, lent for the lifetime α
@@ -152,10 +152,10 @@ module _ {M : Type 1} {𝓤 : Ura M} (𝓛 : Logic 𝓤) (mem'' : Memory → SPr
     mut = (MutRef (named 1) (α ∷ []) R).own_val room (vptr l₄ 0 ∷ [])
 
     -- what the callee's triple binds outside
-    abbrev to-ask : (Ask 𝓛 mem'' run).Ghost
-    to-ask = (((κ, (α ∷ [], tt)), (q, (full_share, tt)), tt, (p, (room, tt)), (at ∷ [], (vptr l₄ 0 ∷ [], tt))), tt)
+    abbrev to_ask : (Ask 𝓛 mem'' run).Ghost
+    to_ask = (((κ, (α ∷ [], tt)), (q, (full_share, tt)), tt, (p, (room, tt)), (at ∷ [], (vptr l₄ 0 ∷ [], tt))), tt)
 
-    goes : Ended p.now → ent 𝓤 (sep 𝓤 (sep 𝓤 (A.lft κ q) (A.lft (α ∷ []) full_share)) (sep 𝓤 (sem 𝓛 shr) (sem 𝓛 mut))) ((Ask 𝓛 mem'' run).pre to-ask)
+    goes : Ended p.now → ent 𝓤 (sep 𝓤 (sep 𝓤 (A.lft κ q) (A.lft (α ∷ []) full_share)) (sep 𝓤 (sem 𝓛 shr) (sem 𝓛 mut))) ((Ask 𝓛 mem'' run).pre to_ask)
     goes e = qed 𝓛 ((‵ (flft κ q) ⊛ ‵ (flft (α ∷ []) full_share)) ∷ (‵ shr ⊛ ‵ mut) ∷ []) ∵ says ! e $ by ! (two 𝓛 κ (α ∷ []) q full_share shr mut)
 
     told : (r : ℤ) → ent 𝓤 (ensured 𝓛 stat.ended (stat.clauses 𝓛 mem'' run) (κ, (α ∷ [], tt)) (p, (room, tt)) tt r) (fact 𝓤 (Status r))
@@ -178,7 +178,7 @@ module _ {M : Type 1} {𝓤 : Ura M} (𝓛 : Logic 𝓤) (mem'' : Memory → SPr
       Γ = del 𝓛 16 (put 𝓛 12 (‵ (fat full_share ty_bool l₆ 0 (vbool f))) (put 𝓛 18 (‵ (fat full_share T'.mir l₃ 0 (val x))) (put 𝓛 20 (‵ (fat full_share ty_bool l₂ 0 (vbool f)))
           (put 𝓛 22 (‵ (fat full_share (ty_ref (named 0) imm (ty_array (ty_int w8) 4096)) l₁ 0 at)) (rooms 𝓛 mem'' run body.locals places [])))))
 
-      after : (w : Val) → Sq 𝓛 (raw ((Ask 𝓛 mem'' run).post (to-ask α l₄ δ) w) ∷ ‵ (flent (α ∷ []) (Body (mem R) l₄ 0 δ)) ∷ Γ) (settles E (place 7 []) w Then)
+      after : (w : Val) → Sq 𝓛 (raw ((Ask 𝓛 mem'' run).post (to_ask α l₄ δ) w) ∷ ‵ (flent (α ∷ []) (Body (mem R) l₄ 0 δ)) ∷ Γ) (settles E (place 7 []) w Then)
       after w =
           use1 𝓛 (later (some (λ (r : ℤ). ((‵ (flft κ q) ⊛ ‵ (flft (α ∷ []) full_share) ⊛ ‵ ftrue) ⊛ ‵ (i32.own_val r (w ∷ []))) ⊛ raw (ensured 𝓛 stat.ended (stat.clauses 𝓛 mem'' run) (κ, (α ∷ [], tt)) (p, (room α l₄ δ, tt)) tt r)))) (id⊢ 𝓤 _) $ await ! tt $ pick ! (λ r.
           split ! $ move ! (1 ∷ []) $ use1 𝓛 (raw (fact 𝓤 (Status r))) (told α l₄ δ r) $ heard ! (Status r) (λ s. split ! $ move ! (1 ∷ []) $ peeks ! i32 (Is i32) (shows 𝓛 i32) r (w ∷ []) (λ is.
@@ -194,7 +194,7 @@ module _ {M : Type 1} {𝓤 : Ura M} (𝓛 : Logic 𝓤) (mem'' : Memory → SPr
           assigns ! (of_opd ! (load ! (from ! (fld ! {d = 28} refl (stop !))) (look_in ! 0 (sub ! 4 {d = 28} refl (whole !))))) (from ! (stop !)) (init ! 6 refl (tt, record { fits = fields.1.1.1.1.0.1 })) $
           assigns ! (of_opd ! (load ! (from ! (fld ! {d = 32} refl (stop !))) (look_in ! 0 (sub ! 5 {d = 32} refl (whole !))))) (from ! (stop !)) (init ! 4 refl (tt, record { fits = fields.1.1.1.1.1.0.1 })) $
           assigns ! (agg ! (and_then ! (load ! (from ! (stop !)) (look ! 18 refl)) (and_then ! (load ! (from ! (stop !)) (look ! 8 refl)) (and_then ! (load ! (from ! (stop !)) (look ! 6 refl)) (and_then ! (load ! (from ! (stop !)) (look ! 4 refl)) (no_more !))))))
-          (from ! (stop !)) (init ! 27 refl ((LL.lawful S.the_type S'.the_laws 𝓛).typed (answer r z) _ (fine-answer r z (refl, is.1) fine)).0) $
+          (from ! (stop !)) (init ! 27 refl ((LL.lawful S.the_type S'.the_laws 𝓛).typed (answer r z) _ (fine_answer r z (refl, is.1) fine)).0) $
           returns ! (look ! 27 refl) $ forget ! 0 refl $ forget ! 4 refl $ forget ! 6 refl $ forget ! 8 refl $ forget ! 14 refl $ forget ! 16 refl $ forget ! 18 refl $ forget ! 21 refl $ forget ! 23 refl $ forget ! 25 refl $ forget ! 27 refl $
           keep ! (27 ∷ 28 ∷ 25 ∷ 26 ∷ 23 ∷ 24 ∷ 21 ∷ 22 ∷ 0 ∷ 20 ∷ 18 ∷ 19 ∷ 16 ∷ 17 ∷ 14 ∷ 15 ∷ 12 ∷ 13 ∷ 10 ∷ 11 ∷ 8 ∷ 9 ∷ 6 ∷ 7 ∷ 4 ∷ 5 ∷ 1 ∷ []) $ freed {Γ = ‵ (flft κ q) ∷ []} ! E $ by ! (exits r z s (refl, is.1) fine))))))
 
@@ -209,14 +209,14 @@ module _ {M : Type 1} {𝓤 : Ura M} (𝓛 : Logic 𝓤) (mem'' : Memory → SPr
           -- `_4` is lent
           lft_new ! tt (λ α. move ! (17 ∷ []) $ use1 𝓛 (‵ (part_at R full_share x l₄ 0)) (lies T.the_type T'.the_laws T'.the_plain 𝓛 x l₄ fine-x) $
           use1 𝓛 (later (some (λ (δ : GName). ‵ (mut α l₄ δ) ⊛ ‵ (flent (α ∷ []) (Body (mem R) l₄ 0 δ))))) (lends_ref 𝓛 R (named 1) (α ∷ []) x l₄ 0) $ await ! tt $ pick ! (λ δ. split ! $
-          move ! (28 ∷ 0 ∷ []) $ join ! $ move ! (28 ∷ 2 ∷ []) $ join ! $ use2 𝓛 (raw ((Ask 𝓛 mem'' run).pre (to-ask α l₄ δ))) (goes α l₄ δ e) $
+          move ! (28 ∷ 0 ∷ []) $ join ! $ move ! (28 ∷ 2 ∷ []) $ join ! $ use2 𝓛 (raw ((Ask 𝓛 mem'' run).pre (to_ask α l₄ δ))) (goes α l₄ δ e) $
           -- [what the callee asks; the lender's part; _12; …; _11; …; _10; …; _9; …; _8; …; _7; …; _6; …; _5; …; …; _3; …; _2; …; _1; …; room for _0; …]
           first ! $ branches ! (load ! (from ! (stop !)) (look ! 14 refl))
           (λ _. assigns ! (addr ! (from ! (stop !))) (from ! (stop !)) (init ! 10 refl (tt, tt)) $
-          calls_at_last ! fm (Ask 𝓛 mem'' run) known-stat (to-ask α l₄ δ) (and_then ! (load ! (from ! (stop !)) (look ! 23 refl)) (and_then ! (load ! (from ! (stop !)) (look ! 10 refl)) (no_more !))) (λ w.
+          calls_at_last ! fm (Ask 𝓛 mem'' run) known-stat (to_ask α l₄ δ) (and_then ! (load ! (from ! (stop !)) (look ! 23 refl)) (and_then ! (load ! (from ! (stop !)) (look ! 10 refl)) (no_more !))) (λ w.
           forget ! 10 refl $ after α δ l₀ l₁ l₂ l₃ l₄ l₅ l₆ l₇ l₈ l₉ l₁₀ l₁₁ l₁₂ w))
           (λ _. assigns ! (addr ! (from ! (stop !))) (from ! (stop !)) (init ! 8 refl (tt, tt)) $
-          calls_at_last ! fm (Ask 𝓛 mem'' run) known-lstat (to-ask α l₄ δ) (and_then ! (load ! (from ! (stop !)) (look ! 23 refl)) (and_then ! (load ! (from ! (stop !)) (look ! 8 refl)) (no_more !))) (λ w.
+          calls_at_last ! fm (Ask 𝓛 mem'' run) known-lstat (to_ask α l₄ δ) (and_then ! (load ! (from ! (stop !)) (look ! 23 refl)) (and_then ! (load ! (from ! (stop !)) (look ! 8 refl)) (no_more !))) (λ w.
           forget ! 8 refl $ after α δ l₀ l₁ l₂ l₃ l₄ l₅ l₆ l₇ l₈ l₉ l₁₀ l₁₁ l₁₂ w)))))))))))))))))
 
 module _ {M : Type 1} {𝓤 : Ura M} (𝓛 : Logic 𝓤) (mem'' : Memory → SProp 𝓤) (run : Routine → Fun 𝓤) where
@@ -230,12 +230,12 @@ module _ {M : Type 1} {𝓤 : Ura M} (𝓛 : Logic 𝓤) (mem'' : Memory → SPr
 meets : {M : Type 1} {𝓤 : Ura M} (𝓛 : Logic 𝓤) → (mem'' : Memory → SProp 𝓤) (run : Routine → Fun 𝓤) (𝓣 : Tables 𝓤 𝓛.H) → Triple 𝓤 (𝓣.C #libc·stat) (Ask 𝓛 mem'' run) → Triple 𝓤 (𝓣.C #libc·lstat) (Ask 𝓛 mem'' run)
     → Meets 𝓛 filled.signature (WpFn 𝓤 𝓛.H 𝓣.C 𝓣.Λ code.function) (filled.spec 𝓛 mem'' run)
 meets {𝓤 = 𝓤} 𝓛 mem'' run 𝓣 known-stat known-lstat =
-    walk_Meets 𝓛 filled.ended stayed (Goes-dropped 𝓛 1 path-slot yes (λ κs x f. refl), (Goes-dropped 𝓛 1 (plain (λ _. bool)) yes (λ κs x f. refl), (Goes-dropped 𝓛 1 (plain (λ _. R)) yes (λ κs x f. refl), tt))) (filled.clauses 𝓛 mem'' run)
+    walk_Meets 𝓛 filled.ended stayed (Goes-dropped 𝓛 1 path_slot yes (λ κs x f. refl), (Goes-dropped 𝓛 1 (plain (λ _. bool)) yes (λ κs x f. refl), (Goes-dropped 𝓛 1 (plain (λ _. R)) yes (λ κs x f. refl), tt))) (filled.clauses 𝓛 mem'' run)
     (WpFn 𝓤 𝓛.H 𝓣.C 𝓣.Λ code.function) (WpFn-mono 𝓤 𝓛.H 𝓛.laws 𝓣 code.function) (walks 𝓛 mem'' run 𝓣.C 𝓣.Λ (fm_of 𝓤 𝓛.H 𝓛.laws 𝓣) known-stat known-lstat)
 
-pub filled-spec : {M : Type 1} → stated.statement M
+pub filled_spec : {M : Type 1} → stated.statement M
 unfolding code.routine tables_of
-filled-spec 𝓤 𝓛 𝓜 𝓡 =
+filled_spec 𝓤 𝓛 𝓜 𝓡 =
     entered 𝓤 𝓛.H (triple_of 𝓛 filled.signature (filled.spec 𝓛 𝓜.mem 𝓡.run))
     (tables 𝓤 𝓛.H 𝓜 𝓡 code.env).C (tables 𝓤 𝓛.H 𝓜 𝓡 code.env).Λ #system·filled code.function (code.unfolded 𝓤 𝓛.H 𝓜 𝓡)
     (meets 𝓛 𝓜.mem 𝓡.run (tables_of 𝓤 𝓛.H 𝓜 (tables 𝓤 𝓛.H 𝓜 𝓡 code.env))

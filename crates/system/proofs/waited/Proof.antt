@@ -104,10 +104,10 @@ module _ {M : Type 1} {𝓤 : Ura M} (𝓛 : Logic 𝓤) (mem'' : Memory → SPr
     mut = (MutRef (named 1) (β ∷ []) R).own_val left (vptr l₄ 0 ∷ [])
 
     -- what the callee's triple binds outside
-    abbrev to-sleep : (Sleep 𝓛 mem'' run).Ghost
-    to-sleep = (((α ∷ [], (β ∷ [], tt)), (full_share, (full_share, tt)), tt, (asked, (left, tt)), (vptr l₃ 0 ∷ [], (vptr l₄ 0 ∷ [], tt))), tt)
+    abbrev to_sleep : (Sleep 𝓛 mem'' run).Ghost
+    to_sleep = (((α ∷ [], (β ∷ [], tt)), (full_share, (full_share, tt)), tt, (asked, (left, tt)), (vptr l₃ 0 ∷ [], (vptr l₄ 0 ∷ [], tt))), tt)
 
-    goes : ent 𝓤 (sep 𝓤 (sep 𝓤 (A.lft (α ∷ []) full_share) (A.lft (β ∷ []) full_share)) (sep 𝓤 (sem 𝓛 shr) (sem 𝓛 mut))) ((Sleep 𝓛 mem'' run).pre to-sleep)
+    goes : ent 𝓤 (sep 𝓤 (sep 𝓤 (A.lft (α ∷ []) full_share) (A.lft (β ∷ []) full_share)) (sep 𝓤 (sem 𝓛 shr) (sem 𝓛 mut))) ((Sleep 𝓛 mem'' run).pre to_sleep)
     goes =
         qed 𝓛 ((‵ (flft (α ∷ []) full_share) ⊛ ‵ (flft (β ∷ []) full_share)) ∷ (‵ shr ⊛ ‵ mut) ∷ []) ∵
         use2 𝓛 ((‵ (flft (α ∷ []) full_share) ⊛ ‵ (flft (β ∷ []) full_share) ⊛ ‵ ftrue) ⊛ ‵ (fsep shr (fsep mut ftrue))) (two 𝓛 (α ∷ []) (β ∷ []) full_share full_share shr mut) $ nothing ! $ move ! (1 ∷ 0 ∷ []) $ done !
@@ -131,8 +131,8 @@ module _ {M : Type 1} {𝓤 : Ura M} (𝓛 : Logic 𝓤) (mem'' : Memory → SPr
         move ! (8 ∷ []) $ use1 𝓛 (‵ (part_at R full_share y l₄ 0)) (lies T.the_type T'.the_laws T'.the_plain 𝓛 y l₄ fine-y) $
         use1 𝓛 (later (some (λ (δ : GName). ‵ (mut α β l₃ l₄ γ δ) ⊛ ‵ (flent (β ∷ []) (Body (mem R) l₄ 0 δ))))) (lends_ref 𝓛 R (named 1) (β ∷ []) y l₄ 0) $ await ! tt $ pick ! (λ δ. split ! $
         -- [`&mut`; its lender's part; `&`; its lender's part; β; α; _6; …; _5; …; …; …; _2; …; _1; …; room for _0; …]
-        move ! (2 ∷ 0 ∷ []) $ join ! $ move ! (4 ∷ 3 ∷ []) $ join ! $ use2 𝓛 (raw ((Sleep 𝓛 mem'' run).pre (to-sleep α β l₃ l₄ γ δ))) (goes α β l₃ l₄ γ δ) $
-        calls_at ! fm (Sleep 𝓛 mem'' run) known (to-sleep α β l₃ l₄ γ δ) (and_then ! (load ! (from ! (stop !)) (look ! 5 refl)) (and_then ! (load ! (from ! (stop !)) (look ! 3 refl)) (no_more !))) (λ w.
+        move ! (2 ∷ 0 ∷ []) $ join ! $ move ! (4 ∷ 3 ∷ []) $ join ! $ use2 𝓛 (raw ((Sleep 𝓛 mem'' run).pre (to_sleep α β l₃ l₄ γ δ))) (goes α β l₃ l₄ γ δ) $
+        calls_at ! fm (Sleep 𝓛 mem'' run) known (to_sleep α β l₃ l₄ γ δ) (and_then ! (load ! (from ! (stop !)) (look ! 5 refl)) (and_then ! (load ! (from ! (stop !)) (look ! 3 refl)) (no_more !))) (λ w.
         use1 𝓛 (later (some (λ (r : ℤ). ((‵ (flft (α ∷ []) full_share) ⊛ ‵ (flft (β ∷ []) full_share) ⊛ ‵ ftrue) ⊛ ‵ (i32.own_val r (w ∷ []))) ⊛ raw (ensured 𝓛 nanosleep.ended (nanosleep.clauses 𝓛 mem'' run) (α ∷ [], (β ∷ [], tt)) (asked α β l₃ l₄ γ δ, (left α β l₃ l₄ γ δ, tt)) tt r)))) (id⊢ 𝓤 _) $ await ! tt $ pick ! (λ r.
         split ! $ move ! (1 ∷ []) $ use1 𝓛 (raw (fact 𝓤 (Status r))) (told α β l₃ l₄ γ δ r) $ heard ! (Status r) (λ s. split ! $ move ! (1 ∷ []) $ peeks ! i32 (Is i32) (shows 𝓛 i32) r (w ∷ []) (λ is.
         land ! (from ! (stop !)) (init ! 14 refl ((sint_Lawful 𝓛 w32).typed r _ is).0) $
@@ -158,9 +158,9 @@ meets {𝓤 = 𝓤} 𝓛 mem'' run 𝓣 known =
     walk_Meets 𝓛 waited.ended stayed (Goes-dropped 𝓛 0 slot yes (λ κs x f. refl), (Goes-dropped 𝓛 0 slot yes (λ κs x f. refl), tt)) (waited.clauses 𝓛 mem'' run)
     (WpFn 𝓤 𝓛.H 𝓣.C 𝓣.Λ code.function) (WpFn-mono 𝓤 𝓛.H 𝓛.laws 𝓣 code.function) (walks 𝓛 mem'' run 𝓣.C 𝓣.Λ (fm_of 𝓤 𝓛.H 𝓛.laws 𝓣) known)
 
-pub waited-spec : {M : Type 1} → stated.statement M
+pub waited_spec : {M : Type 1} → stated.statement M
 unfolding code.routine tables_of
-waited-spec 𝓤 𝓛 𝓜 𝓡 =
+waited_spec 𝓤 𝓛 𝓜 𝓡 =
     entered 𝓤 𝓛.H (triple_of 𝓛 waited.signature (waited.spec 𝓛 𝓜.mem 𝓡.run))
     (tables 𝓤 𝓛.H 𝓜 𝓡 code.env).C (tables 𝓤 𝓛.H 𝓜 𝓡 code.env).Λ #system·waited code.function (code.unfolded 𝓤 𝓛.H 𝓜 𝓡)
     (meets 𝓛 𝓜.mem 𝓡.run (tables_of 𝓤 𝓛.H 𝓜 (tables 𝓤 𝓛.H 𝓜 𝓡 code.env))

@@ -7,8 +7,8 @@ use native.Mathlib.Omega.{arith}
 use lib.ListN.{length-take}
 use borrow.Author.Rules.{rules}
 use Rattle.format.specs.Reading.{read_of}
-use Rattle.tray.specs.UsableLaws.{usable-as}
-use Rattle.tray.proofs.Scanning.{ScannedTo, scanned-none, scanned-skipped, slot-size, room-for-bit, scanned-joined, scanned-all}
+use Rattle.tray.specs.UsableLaws.{usable_as}
+use Rattle.tray.proofs.Scanning.{ScannedTo, scanned_none, scanned_skipped, slot_size, room_for_bit, scanned_joined, scanned_all}
 use Rattle.tray.proofs.scan.Statement.{statement}
 use Rattle.tray.proofs.scan.Tie as tie
 
@@ -19,7 +19,7 @@ abbrev decreases-loop : tie.decreases-loop
 decreases-loop told stamp l tray rows₀ n set₀ k₀ rows set k = n - k
 
 loop-holds : tie.Need-loop-init invariant-loop decreases-loop
-loop-holds c = scanned-none c.before.before.requires
+loop-holds c = scanned_none c.before.before.requires
 
 add-slot-of : tie.Need-overflow-add-slot-of invariant-loop decreases-loop
 add-slot-of c = search rules
@@ -49,7 +49,7 @@ loop-again c =
     let read-bad = c.enum_told.given in
     let read = ap read_of (sym slot.slot_of.ensures) ∙ (sym c.before.before.read.ensures ∙ read-bad.1) in
     let start = turn.before.before.before.before in
-    scanned-skipped start.requires turn.before.loop.invariant turn.loop-test.true (usable-as _ _ _ _ _ _ read)
+    scanned_skipped start.requires turn.before.loop.invariant turn.loop-test.true (usable_as _ _ _ _ _ _ read)
 
 add-head-for : tie.Need-overflow-add-head-for invariant-loop decreases-loop
 add-head-for c = search rules
@@ -83,7 +83,7 @@ take-shares-requires c κs =
     let slot = c.before.before.before.before.before.before.before.before in
     let turn = slot.before in
     let start = turn.before.before.before.before in
-    (slot-size start.requires turn.before.loop.invariant turn.loop-test.true slot.slot_of.ensures, rw length-take (omega arith))
+    (slot_size start.requires turn.before.loop.invariant turn.loop-test.true slot.slot_of.ensures, rw length-take (omega arith))
 
 cast-set : tie.Need-overflow-cast-set invariant-loop decreases-loop
 cast-set c = omega arith
@@ -95,7 +95,7 @@ add-set : tie.Need-overflow-add-set invariant-loop decreases-loop
 add-set c =
     let turn = c.before.before.before.before.before.before.before.before.before.before.before.before in
     let start = turn.before.before.before.before in
-    record { fits = room-for-bit start.requires turn.before.loop.invariant turn.loop-test.true }
+    record { fits = room_for_bit start.requires turn.before.loop.invariant turn.loop-test.true }
 
 add-k-2 : tie.Need-overflow-add-k-2 invariant-loop decreases-loop
 add-k-2 c = search rules
@@ -109,22 +109,22 @@ loop-again-2 c =
     let turn = slot.before in
     let given = c.before.before.before.before.h.given in
     let read = ap read_of (sym slot.slot_of.ensures) ∙ (sym c.before.before.before.before.before.before.read.ensures ∙ given.1) in
-    let suits = usable-as _ _ _ _ _ _ read ∙ (rw c.before.before.head-for.ensures at (sym c.before.same.ensures)) in
+    let suits = usable_as _ _ _ _ _ _ read ∙ (rw c.before.before.head-for.ensures at (sym c.before.same.ensures)) in
     let start = turn.before.before.before.before in
     let bytes = turn.before.before.before.shared-slice-known.given in
     ⊎_elim
-    (λ w. rw (w.5, w.6) (scanned-joined start.requires turn.before.loop.invariant turn.loop-test.true (suits ∙ w.0.taken) (λ i h. (bytes i).fits) slot.slot_of.ensures w.2.ensures))
-    (λ w. rw (w.1, w.2) (scanned-skipped start.requires turn.before.loop.invariant turn.loop-test.true (suits ∙ w.0.left)))
+    (λ w. rw (w.5, w.6) (scanned_joined start.requires turn.before.loop.invariant turn.loop-test.true (suits ∙ w.0.taken) (λ i h. (bytes i).fits) slot.slot_of.ensures w.2.ensures))
+    (λ w. rw (w.1, w.2) (scanned_skipped start.requires turn.before.loop.invariant turn.loop-test.true (suits ∙ w.0.left)))
     c.if1.branch
 
 same_length : tie.Need-same-length invariant-loop decreases-loop
 same_length c = c.before.loop.invariant.size ∙ sym c.before.before.before.before.requires.room
 
 returns : tie.Need-returns invariant-loop decreases-loop
-returns c = scanned-all c.before.before.before.before.requires c.before.loop.invariant c.loop-test.false
+returns c = scanned_all c.before.before.before.before.requires c.before.loop.invariant c.loop-test.false
 
-pub scan-spec : {M : Type 1} → statement M
-scan-spec =
+pub scan_spec : {M : Type 1} → statement M
+scan_spec =
     tie.close
     (tie.spec
     invariant-loop

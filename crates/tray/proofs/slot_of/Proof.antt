@@ -14,8 +14,8 @@ sub-from c = search rules
 mul-from : tie.Need-overflow-mul-from
 mul-from c = search rules
 
-add-result : tie.Need-overflow-add-result
-add-result c = search rules
+add_result : tie.Need-overflow-add-result
+add_result c = search rules
 
 sub-result : tie.Need-overflow-sub-result
 sub-result c = search rules
@@ -33,7 +33,7 @@ returns c =
     let whole : at + 2048 - at ≡ 2048 = omega arith in
     rw whole
 
-pub slot-of-spec : {M : Type 1} → statement M
-slot-of-spec =
+pub slot_of_spec : {M : Type 1} → statement M
+slot_of_spec =
     tie.close
-    (tie.spec sub-from mul-from add-result sub-result part-result-start part-result-end returns)
+    (tie.spec sub-from mul-from add_result sub-result part-result-start part-result-end returns)

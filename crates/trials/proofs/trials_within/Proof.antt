@@ -8,7 +8,7 @@ use borrow.Author.Rules.{rules}
 use Rattle.lists.specs.Chosen.{chosen}
 use Rattle.lists.specs.From.{from}
 use Rattle.lists.specs.KeeperSet.{member}
-use Rattle.trials.specs.Left.{usable-many}
+use Rattle.trials.specs.Left.{usable_many_lem}
 use Rattle.trials.specs.Lowest.{place-trials}
 use Rattle.trials.proofs.trials_within.Statement.{statement}
 use Rattle.trials.proofs.trials_within.Tie as tie
@@ -16,14 +16,14 @@ use Rattle.trials.proofs.trials_within.Tie as tie
 cast-many : tie.Need-overflow-cast-many
 cast-many c = record { fits = omega (arith, ones-le 16 c.args.usable c.ranges.usable.fits) }
 
-add-counted : tie.Need-overflow-add-counted
-add-counted c = search rules
+add_counted : tie.Need-overflow-add-counted
+add_counted c = search rules
 
-counted-requires : tie.Need-counted-requires
-counted-requires c κs = record {
+counted_requires : tie.Need-counted-requires
+counted_requires c κs = record {
   small = omega (arith, c.requires.0);
   bound = omega arith;
-  size = usable-many c.args.usable c.ranges.usable.fits;
+  size = usable_many_lem c.args.usable c.ranges.usable.fits;
   enough = omega (arith, c.requires.1);
 }
 
@@ -32,5 +32,5 @@ returns c =
     let a = c.before in
     c.counted.ensures ∙ place-trials (member a.args.set) (chosen (member a.args.usable) (from 1 16)) (a.args.t + 1) a.requires.1
 
-pub trials-within-spec : {M : Type 1} → statement M
-trials-within-spec = tie.close (tie.spec cast-many add-counted counted-requires returns)
+pub trials_within_spec : {M : Type 1} → statement M
+trials_within_spec = tie.close (tie.spec cast-many add_counted counted_requires returns)

@@ -21,14 +21,14 @@ behind : (f : ℕ → ℕ) (i : ℕ) (xs : List ℕ) → i < length xs → get_o
 behind f i xs h = rw (drop-cons xs i 0 h) (get_or_at (listed f i) (get_or xs i 0) (drop (suc i) xs) 0 i (length-listed f i))
 
 module _ {sums row : List ℕ} {times : ℕ} (given : Addition sums row times) (i : ℕ) (h : i < length sums) where
-  word-le : get_or row i 0 ≤ 256
-  word-le = omega (arith, given.words i (omega arith))
+  word_le : get_or row i 0 ≤ 256
+  word_le = omega (arith, given.words i (omega arith))
 
   product_le : get_or row i 0 * times ≤ 65536
-  product_le = mul-le-mul {n₂ = 256} {m₂ = 256} word-le given.word
+  product_le = mul-le-mul {n₂ = 256} {m₂ = 256} word_le given.word
 
-  sum-le : get_or (listed (added sums row times) i ++ drop i sums) i 0 + get_or row i 0 * times ≤ 589824
-  sum-le = rw (behind (added sums row times) i sums h) (omega (arith, given.room i h, product_le))
+  sum_le : get_or (listed (added sums row times) i ++ drop i sums) i 0 + get_or row i 0 * times ≤ 589824
+  sum_le = rw (behind (added sums row times) i sums h) (omega (arith, given.room i h, product_le))
 
 abbrev invariant-loop : tie.invariant-loop
 invariant-loop sums₀ row factor i₀ sums i =
@@ -56,7 +56,7 @@ shared-slice-read-sums c = search rules
 cast-sums : tie.Need-overflow-cast-sums invariant-loop decreases-loop
 cast-sums c =
     let start = c.before.before.before.before in
-    omega (arith, word-le start.requires c.before.before.before.loop.i (omega arith))
+    omega (arith, word_le start.requires c.before.before.before.loop.i (omega arith))
 
 mul-sums-3 : tie.Need-overflow-mul-sums-3 invariant-loop decreases-loop
 mul-sums-3 c =
@@ -67,7 +67,7 @@ add-sums : tie.Need-overflow-add-sums invariant-loop decreases-loop
 add-sums c =
     let start = c.before.before.before.before in
     let here = c.before.before.before.loop in
-    let e = sum-le start.requires here.i (omega arith) in
+    let e = sum_le start.requires here.i (omega arith) in
     rw here.invariant.2 (omega arith)
 
 mul-sums-4 : tie.Need-overflow-mul-sums-4 invariant-loop decreases-loop
@@ -102,8 +102,8 @@ returns c =
     let end : here.i ≡ length c.before.before.args.sums.now = omega arith in
     here.invariant.2 ∙ rw (end, drop-length, append-nil)
 
-pub add-row-spec : {M : Type 1} → statement M
-add-row-spec =
+pub add_row_spec : {M : Type 1} → statement M
+add_row_spec =
     tie.close
     (tie.spec
     invariant-loop

@@ -8,14 +8,14 @@ use lib.ListN.{length, get_or, take, drop, length-append, length-drop}
 use lib.Seq.{length-take-le, take_at}
 use borrow.Author.Rules.{rules}
 use Rattle.lists.specs.Listed.{length-listed}
-use Rattle.weigh.specs.CarriedRows.{rowFront, row-end, carriage-rows, row_carried}
-use Rattle.weigh.specs.PlainRows.{plainRow, row-none, row-addition, row_next, row-reduced}
+use Rattle.weigh.specs.CarriedRows.{row_front, row_end, carriage_rows, row_carried}
+use Rattle.weigh.specs.PlainRows.{plain_row, row_none, row_addition, row_next, row_reduced}
 use Rattle.weigh.proofs.carry_row.Statement.{statement}
 use Rattle.weigh.proofs.carry_row.Tie as tie
 
 abbrev invariant-loop : tie.invariant-loop
 invariant-loop points rows x row sums₀ size j₀ sums j =
-    (j ≤ length points) × (length sums ≡ 952) × (take size sums ≡ plainRow points (rowFront points rows size) x size j)
+    (j ≤ length points) × (length sums ≡ 952) × (take size sums ≡ plain_row points (row_front points rows size) x size j)
 
 abbrev decreases-loop : tie.decreases-loop
 decreases-loop points rows x row sums₀ size j₀ sums j = length points - j
@@ -23,7 +23,7 @@ decreases-loop points rows x row sums₀ size j₀ sums j = length points - j
 loop-holds : tie.Need-loop-init invariant-loop decreases-loop
 loop-holds c =
     let start = c.before.before.before in
-    (search rules, refl, row-none (carriage-rows start.requires) start.args.x)
+    (search rules, refl, row_none (carriage_rows start.requires) start.args.x)
 
 mul-a : tie.Need-overflow-mul-a invariant-loop decreases-loop
 mul-a c = search rules
@@ -40,7 +40,7 @@ keeper c =
     let start = c.before.before.before.before.before in
     let here = c.before.loop in
     let k = start.requires.keepers here.j (omega arith) in
-    (k.0, k.1, row-end start.requires here.j (omega arith))
+    (k.0, k.1, row_end start.requires here.j (omega arith))
 
 cast-at : tie.Need-overflow-cast-at invariant-loop decreases-loop
 cast-at c = omega (arith, keeper c.before)
@@ -80,7 +80,7 @@ add-row-requires c κs =
     let here = c.before.before.before.before.before.loop in
     let start = c.before.before.before.before.before.before.before.before.before in
     rw (add-sub_cancel_left, here.invariant.2, c.factor-of.ensures)
-    (row-addition (carriage-rows start.requires) start.args.x here.j (omega arith))
+    (row_addition (carriage_rows start.requires) start.args.x here.j (omega arith))
 
 add-j : tie.Need-overflow-add-j invariant-loop decreases-loop
 add-j c = search rules
@@ -93,7 +93,7 @@ loop-again c =
     let here = c.before.before.before.before.before.before.before.loop in
     let start = c.before.before.before.before.before.before.before.before.before.before.before in
     let n = length start.args.row.now in
-    let next = row_next (carriage-rows start.requires) start.args.x here.j in
+    let next = row_next (carriage_rows start.requires) start.args.x here.j in
     let size : length c.before.add_row.new.0 ≡ n = c.before.add_row.auto.0 ∙ length-take-le n here.sums (omega arith) in (
       omega arith,
       simp (length-append, length-drop) (omega arith),
@@ -120,10 +120,10 @@ returns c =
     let start = c.before.before.before.before.before.before.before.before.before.before in
     let end : here.j ≡ length start.args.points.now = omega arith in
     c.before.before.reduce.ensures
-    ∙ rw (here.invariant.2, length-listed, end) (row-reduced (carriage-rows start.requires) start.args.x ∙ row_carried start.requires start.args.x)
+    ∙ rw (here.invariant.2, length-listed, end) (row_reduced (carriage_rows start.requires) start.args.x ∙ row_carried start.requires start.args.x)
 
-pub carry-row-spec : {M : Type 1} → statement M
-carry-row-spec =
+pub carry_row_spec : {M : Type 1} → statement M
+carry_row_spec =
     tie.close
     (tie.spec
     invariant-loop

@@ -8,7 +8,7 @@ use lib.ListN.{length, get_or}
 use borrow.Author.Rules.{rules}
 use Rattle.algebra.specs.Combine.{combine}
 use Rattle.field.specs.Modulo.{mod257}
-use Rattle.weigh.specs.Carried.{partly, partly-next}
+use Rattle.weigh.specs.Carried.{partly, partly_next}
 use Rattle.weigh.proofs.carry_word.Statement.{statement}
 use Rattle.weigh.proofs.carry_word.Tie as tie
 
@@ -67,7 +67,7 @@ loop-again : tie.Need-loop-preserved invariant-loop decreases-loop
 loop-again c =
     let here = c.before.before.before.before.before.before.loop in
     let args = c.before.before.before.before.before.before.before.before.before.args in
-    let next = partly-next mod257 args.points.now (word args.words.now) args.x here.i (omega arith) in
+    let next = partly_next mod257 args.points.now (word args.words.now) args.x here.i (omega arith) in
     (omega arith, rw (c.add.ensures, c.before.mul.ensures, c.before.before.factor-of.ensures, here.invariant.1) (sym next))
 
 returns : tie.Need-returns invariant-loop decreases-loop
@@ -76,8 +76,8 @@ returns c =
     let end : here.i ≡ length c.before.before.before.before.args.points.now = omega arith in
     here.invariant.1 ∙ rw end
 
-pub carry-word-spec : {M : Type 1} → statement M
-carry-word-spec =
+pub carry_word_spec : {M : Type 1} → statement M
+carry_word_spec =
     tie.close
     (tie.spec
     invariant-loop

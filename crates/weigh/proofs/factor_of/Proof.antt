@@ -11,9 +11,9 @@ use lib.Seq.{take_all}
 use borrow.Author.Rules.{rules}
 use borrow.Author.Tests.{eq-eqb, ne_eqb}
 use Rattle.algebra.specs.Factor.{factor, factor-take}
-use Rattle.algebra.specs.Fraction.{mul-four}
-use Rattle.field.specs.Fraction.{inv-product}
-use Rattle.field.specs.Laws.{mod257-field}
+use Rattle.algebra.specs.Fraction.{mul_four}
+use Rattle.field.specs.Fraction.{inv_product}
+use Rattle.field.specs.Laws.{mod257_field}
 use Rattle.field.specs.Modulo.{mod257, reciprocals}
 use Rattle.weigh.proofs.factor_of.Statement.{statement}
 use Rattle.weigh.proofs.factor_of.Tie as tie
@@ -23,14 +23,14 @@ Passed points i a x above below = mod257.mul above (mod257.inv below) ≡ factor
 
 module _ (points : List ℕ) (i a x above below : ℕ) (h : i < length points) (passed : Passed points i a x above below) where
   self : {above' below' : ℕ} → a ≡ get_or points i 0 → above' ≡ above → below' ≡ below → Passed points (i + 1) a x above' below'
-  self e u v = rw (u, v, add-one, factor-take mod257-field points i a x h, eq-eqb a (get_or points i 0) e) passed
+  self e u v = rw (u, v, add-one, factor-take mod257_field points i a x h, eq-eqb a (get_or points i 0) e) passed
 
   other : {above' below' : ℕ} → (a ≡ get_or points i 0 → ⊥) → above' ≡ mod257.mul (mod257.sub x (get_or points i 0)) above
       → below' ≡ mod257.mul (mod257.sub a (get_or points i 0)) below → Passed points (i + 1) a x above' below'
   other n u v =
       let b = get_or points i 0 in
-      rw (u, v, add-one, factor-take mod257-field points i a x h, ne_eqb a b n, ← passed, inv-product (mod257.sub a b) below)
-      (sym (mul-four mod257-field (mod257.sub x b) (mod257.inv (mod257.sub a b)) above (mod257.inv below)))
+      rw (u, v, add-one, factor-take mod257_field points i a x h, ne_eqb a b n, ← passed, inv_product (mod257.sub a b) below)
+      (sym (mul_four mod257_field (mod257.sub x b) (mod257.inv (mod257.sub a b)) above (mod257.inv below)))
 
 abbrev invariant-loop : tie.invariant-loop
 invariant-loop points a x above₀ below₀ i₀ above below i = (i ≤ length points) × Passed points i a x above below
@@ -90,8 +90,8 @@ returns c =
     let points = c.before.before.before.before.before.args.points.now in
     c.mul3.ensures ∙ ap (mod257.mul here.above) c.before.reciprocal.ensures ∙ here.invariant.1 ∙ rw (take_all here.i points (omega arith))
 
-pub factor-of-spec : {M : Type 1} → statement M
-factor-of-spec =
+pub factor_of_spec : {M : Type 1} → statement M
+factor_of_spec =
     tie.close
     (tie.spec
     invariant-loop

@@ -63,8 +63,8 @@ returns c =
     let end : here.i ≡ length start.args.row.now = omega arith in
     here.invariant.2 ∙ rw (end, drop-length, append-nil, start.requires)
 
-pub reduce-spec : {M : Type 1} → statement M
-reduce-spec =
+pub reduce_spec : {M : Type 1} → statement M
+reduce_spec =
     tie.close
     (tie.spec
     invariant-loop

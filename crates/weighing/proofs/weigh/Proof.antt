@@ -5,32 +5,32 @@ use mathlib.Core.Path.{◌≡◌, sym, ◌∙◌}
 use lib.ListN.{length}
 use lib.Seq.{length-take-le}
 use borrow.Author.Rules.{rules}
-use Rattle.sub_letters.specs.Judging.{weighRefusal}
-use Rattle.sub_letters.specs.JudgingLaws.{weigh-right}
-use Rattle.weighing.specs.WeighingLaws.{weigh-refused}
+use Rattle.sub_letters.specs.Judging.{weigh_refusal}
+use Rattle.sub_letters.specs.JudgingLaws.{weigh_right}
+use Rattle.weighing.specs.WeighingLaws.{weigh_refused}
 use Rattle.weighing.proofs.weigh.Statement.{statement}
 use Rattle.weighing.proofs.weigh.Tie as tie
 
 abbrev start : tie.Else1 → tie.Start
 start c = c.before.before.before.before.before.before
 
-none : (c : tie.Else1) → let a = (start c).args in weighRefusal a.m a.keepers.now a.keeper a.letters.now a.slot.now ≡ 0
+none : (c : tie.Else1) → let a = (start c).args in weigh_refusal a.m a.keepers.now a.keeper a.letters.now a.slot.now ≡ 0
 none c = sym c.before.refusal.ensures ∙ c.if1.false
 
 few : (c : tie.Else1) → length (start c).args.keepers.now ≤ 8
-few c = (weigh-right _ _ _ _ _ (none c)).lent.few
+few c = (weigh_right _ _ _ _ _ (none c)).lent.few
 
 refusal-requires : tie.Need-refusal-requires
 refusal-requires c κs = search rules
 
-alone-requires : tie.Need-alone-requires
-alone-requires c κs = search rules
+alone_requires : tie.Need-alone-requires
+alone_requires c κs = search rules
 
 same_length : tie.Need-same-length
 same_length c = search rules
 
 returns : tie.Need-returns
-returns c = weigh-refused _ _ _ _ _ c.before.before.refusal.ensures c.before.if1.true c.alone.ensures
+returns c = weigh_refused _ _ _ _ _ c.before.before.refusal.ensures c.before.if1.true c.alone.ensures
 
 array-borrow-prefix-told : tie.Need-array-borrow-prefix-told
 array-borrow-prefix-told c = few c
@@ -49,18 +49,18 @@ weigh-lent-requires c κs =
     let else = c.before.before.before in
     (none else, (length-take-le _ _ (few else), length-take-le _ _ (few else)))
 
-same-length-2 : tie.Need-same-length-2
-same-length-2 c = search rules
+same_length_2 : tie.Need-same-length-2
+same_length_2 c = search rules
 
-returns-2 : tie.Need-returns-2
-returns-2 c = c.before.before.before.before.weigh-lent.ensures
+returns_2 : tie.Need-returns-2
+returns_2 c = c.before.before.before.before.weigh-lent.ensures
 
-pub weigh-spec : {M : Type 1} → statement M
-weigh-spec =
+pub weigh_spec : {M : Type 1} → statement M
+weigh_spec =
     tie.close
     (tie.spec
     refusal-requires
-    alone-requires
+    alone_requires
     same_length
     returns
     array-borrow-prefix-told
@@ -68,5 +68,5 @@ weigh-spec =
     array-borrow-prefix-froms
     slice-aggregate-weigh-lent-2
     weigh-lent-requires
-    same-length-2
-    returns-2)
+    same_length_2
+    returns_2)

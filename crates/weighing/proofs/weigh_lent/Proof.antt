@@ -3,12 +3,12 @@
 use mathlib.Core.Path.{◌≡◌, ap, ◌∙◌}
 use lib.ListN.{length}
 use borrow.Author.Rules.{rules}
-use Rattle.sub_letters.specs.JudgingLaws.{WeighRight, weigh-right}
+use Rattle.sub_letters.specs.JudgingLaws.{WeighRight, weigh_right}
 use Rattle.weighing.proofs.weigh_lent.Statement.{statement}
 use Rattle.weighing.proofs.weigh_lent.Tie as tie
 
 right : (c : tie.Start) → let a = c.args in WeighRight a.m a.keepers.now a.keeper a.letters.now a.slot.now
-right c = weigh-right _ _ _ _ _ c.requires.0
+right c = weigh_right _ _ _ _ _ c.requires.0
 
 put-keepers-requires : tie.Need-put-keepers-requires
 put-keepers-requires c κs = let start = c.before.before.before.before.before.before in (start.requires.1.0, (right start).small)
@@ -26,8 +26,8 @@ weigh-told-requires c κs =
 same_length : tie.Need-same-length
 same_length c = search rules
 
-same-length-2 : tie.Need-same-length-2
-same-length-2 c = search rules
+same_length_2 : tie.Need-same-length-2
+same_length_2 c = search rules
 
 same-length-3 : tie.Need-same-length-3
 same-length-3 c = search rules
@@ -38,14 +38,14 @@ returns c =
     let told = c.before.before.before.before.before.before.before.before.before.before.before.before in
     rw told.put-keepers.ensures at weighed.weigh-told.ensures
 
-pub weigh-lent-spec : {M : Type 1} → statement M
-weigh-lent-spec =
+pub weigh_lent_spec : {M : Type 1} → statement M
+weigh_lent_spec =
     tie.close
     (tie.spec
     put-keepers-requires
     put-froms-requires
     weigh-told-requires
     same_length
-    same-length-2
+    same_length_2
     same-length-3
     returns)

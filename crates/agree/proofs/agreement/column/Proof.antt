@@ -61,8 +61,8 @@ returns : tie.Need-returns invariant-loop decreases-loop
 returns c =
     c.before.loop.invariant.1 ∙ whole _ _ _ (omega arith) refl
 
-pub column-spec : {M : Type 1} → statement M
-column-spec =
+pub column_spec : {M : Type 1} → statement M
+column_spec =
     tie.close
     (tie.spec
     invariant-loop

@@ -2,9 +2,9 @@
 -- Assumes nothing.
 use native.Mathlib.Omega.{arith}
 use borrow.Author.Rules.{rules}
-use Rattle.field.specs.Laws.{mod257-field}
-use Rattle.weigh.specs.Weigh.{rowWord}
-use Rattle.search.specs.Base.{base-length, base-keepers, keeper-points}
+use Rattle.field.specs.Laws.{mod257_field}
+use Rattle.weigh.specs.Weigh.{row_word}
+use Rattle.search.specs.Base.{base_length, base_keepers, keeper_points}
 use Rattle.agree.specs.Recovers.{recovered}
 use Rattle.agree.proofs.constants.constants_of.Statement.{statement}
 use Rattle.agree.proofs.constants.constants_of.Tie as tie
@@ -19,13 +19,13 @@ array-share-prefix-base : tie.Need-array-share-prefix-base
 array-share-prefix-base c = search rules
 
 slice-aggregate-carry-row : tie.Need-slice-aggregate-carry-row
-slice-aggregate-carry-row c = omega (arith, base-length c.before.first.ensures)
+slice-aggregate-carry-row c = omega (arith, base_length c.before.first.ensures)
 
 carry-row-requires : tie.Need-carry-row-requires
 carry-row-requires c κs =
     let a = c.before.before.before.before.before in
     let base = c.before.before.first.ensures in
-    record { keepers = base-keepers base; few = omega (arith, base-length base); whole = a.requires.0.whole; words = a.requires.0.words; room = a.requires.1.1.1 }
+    record { keepers = base_keepers base; few = omega (arith, base_length base); whole = a.requires.0.whole; words = a.requires.0.words; room = a.requires.1.1.1 }
 
 same_length : tie.Need-same-length
 same_length c = search rules
@@ -33,10 +33,10 @@ same_length c = search rules
 returns : tie.Need-returns
 returns c =
     let row = c.before.before in
-    recovered mod257-field row.before.before.before.first.ensures keeper-points (rowWord row.before.before.before.before.before.before.args.rows.now) _ _ row.carry-row.ensures
+    recovered mod257_field row.before.before.before.first.ensures keeper_points (row_word row.before.before.before.before.before.before.args.rows.now) _ _ row.carry-row.ensures
 
-pub constants-of-spec : {M : Type 1} → statement M
-constants-of-spec =
+pub constants_of_spec : {M : Type 1} → statement M
+constants_of_spec =
     tie.close
     (tie.spec
     first-requires

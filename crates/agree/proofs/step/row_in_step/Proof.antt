@@ -8,8 +8,8 @@ use native.Mathlib.Omega.{arith}
 use lib.ListN.{length, get_or, take, drop}
 use lib.Seq.{get_or-take, get_or-drop}
 use borrow.Author.Rules.{rules}
-use Rattle.lists.specs.Listed.{listed, length-listed, getD-listed}
-use Rattle.weigh.specs.Weigh.{rowWord}
+use Rattle.lists.specs.Listed.{listed, length-listed, get_d_listed}
+use Rattle.weigh.specs.Weigh.{row_word}
 use Rattle.agree.specs.Kept.{Alike}
 use Rattle.agree.proofs.step.row_in_step.Statement.{statement}
 use Rattle.agree.proofs.step.row_in_step.Tie as tie
@@ -48,7 +48,7 @@ same_length : tie.Need-same-length
 same_length c = search rules
 
 -- the places of a row among the rows
-in_rows : (rows : List ℕ) (k n j : ℕ) → j < n → get_or (take (952 * k + n - 952 * k) (drop (952 * k) rows)) j 0 ≡ rowWord rows (k + 1) j
+in_rows : (rows : List ℕ) (k n j : ℕ) → j < n → get_or (take (952 * k + n - 952 * k) (drop (952 * k) rows)) j 0 ≡ row_word rows (k + 1) j
 in_rows rows k n j h = rw (add-sub_cancel_left (952 * k) n, get_or-take n (drop (952 * k) rows) j 0 h, get_or-drop (952 * k) rows j 0, add-sub_cancel k 1)
 
 carried_row : {f g other : ℕ → ℕ} {start n r : ℕ} (row : List ℕ) → row ≡ listed f n → Alike (λ j. get_or row j 0) other start (length row) r
@@ -59,7 +59,7 @@ carried_row {f} {n = n} row e a o =
       starts = a.starts;
       ends = omega (arith, a.ends);
       same = λ j b h.
-          sym (ap (λ (xs : List ℕ). get_or xs j 0) e ∙ getD-listed f n j (omega (arith, a.ends))) ∙ a.same j b h ∙ o j (omega (arith, a.ends));
+          sym (ap (λ (xs : List ℕ). get_or xs j 0) e ∙ get_d_listed f n j (omega (arith, a.ends))) ∙ a.same j b h ∙ o j (omega (arith, a.ends));
     }
 
 returns : tie.Need-returns
@@ -68,8 +68,8 @@ returns c =
     let row = c.before.before.before.before.before.carry-row in
     carried_row row.new.1.1.1.0 row.ensures c.difference.ensures (λ j h. in_rows a.rows.now a.k (length row.new.1.1.1.0) j h)
 
-pub row-in-step-spec : {M : Type 1} → statement M
-row-in-step-spec =
+pub row_in_step_spec : {M : Type 1} → statement M
+row_in_step_spec =
     tie.close
     (tie.spec
     cast-carry-row

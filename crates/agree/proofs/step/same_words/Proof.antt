@@ -5,7 +5,7 @@ use mathlib.Core.Logic.{⊎_elim}
 use native.Mathlib.Omega.{arith}
 use lib.ListN.{length}
 use borrow.Author.Rules.{rules}
-use Rattle.lists.specs.Passed.{Passed, passed_none, passed-alike, passed_apart, passed-all}
+use Rattle.lists.specs.Passed.{Passed, passed_none, passed_alike, passed_apart, passed_all}
 use Rattle.agree.proofs.step.same_words.Statement.{statement}
 use Rattle.agree.proofs.step.same_words.Tie as tie
 
@@ -39,14 +39,14 @@ loop-less c = search rules
 loop-again : tie.Need-loop-preserved invariant-loop decreases-loop
 loop-again c =
     let here = c.before.before.before.before.loop in
-    ⊎_elim (λ w. passed_apart here.invariant (omega arith) w.0.taken w.1) (λ w. passed-alike here.invariant (omega arith) w.0.left w.1)
+    ⊎_elim (λ w. passed_apart here.invariant (omega arith) w.0.taken w.1) (λ w. passed_alike here.invariant (omega arith) w.0.left w.1)
     c.if1.branch
 
 returns : tie.Need-returns invariant-loop decreases-loop
-returns c = passed-all c.before.loop.same c.before.loop.invariant c.loop-test.false c.before.before.requires
+returns c = passed_all c.before.loop.same c.before.loop.invariant c.loop-test.false c.before.before.requires
 
-pub same-words-spec : {M : Type 1} → statement M
-same-words-spec =
+pub same_words_spec : {M : Type 1} → statement M
+same_words_spec =
     tie.close
     (tie.spec
     invariant-loop

@@ -6,7 +6,7 @@ use native.Mathlib.Omega.{arith}
 use lib.ListN.{length, get_or, drop, length-drop}
 use lib.Seq.{get_or-drop}
 use borrow.Author.Rules.{rules}
-use Rattle.block.specs.AtMostLaws.{Largest, largest-none, largest-more}
+use Rattle.block.specs.AtMostLaws.{Largest, largest_none, largest_more}
 use Rattle.block.specs.WordParts.{length-words}
 use Rattle.block.specs.Words.{words_of}
 use Rattle.block.proofs.bounds.all_at_most.Statement.{statement}
@@ -22,7 +22,7 @@ loop-holds : tie.Need-loop-init invariant-loop decreases-loop
 loop-holds c =
     let a = c.before.args in
     let none : a.from - a.from ≡ 0 = omega arith in
-    (omega arith, search rules, rw none (largest-none (drop a.from (words_of a.bytes.now))))
+    (omega arith, search rules, rw none (largest_none (drop a.from (words_of a.bytes.now))))
 
 word-at-requires : tie.Need-word-at-requires invariant-loop decreases-loop
 word-at-requires c κs = search rules
@@ -46,7 +46,7 @@ loop-again c =
     let read : c.larger.result ≡ max here.largest (get_or (drop a.from words) (here.i - a.from) 0)
     = rw (get_or-drop a.from words (here.i - a.from) 0, at, ← c.before.word_at.ensures) c.larger.ensures in
     let inside : here.i - a.from < length (drop a.from words) = omega (arith, length-drop a.from words, length-words a.bytes.now) in
-    (omega arith, omega arith, rw more (largest-more (drop a.from words) (here.i - a.from) here.largest c.larger.result inside read here.invariant.2))
+    (omega arith, omega arith, rw more (largest_more (drop a.from words) (here.i - a.from) here.largest c.larger.result inside read here.invariant.2))
 
 returns : tie.Need-returns invariant-loop decreases-loop
 returns c =
@@ -55,8 +55,8 @@ returns c =
     let end : here.i ≡ a.to = omega arith in
     sym (rw end at (here.invariant.2 a.top))
 
-pub all-at-most-spec : {M : Type 1} → statement M
-all-at-most-spec =
+pub all_at_most_spec : {M : Type 1} → statement M
+all_at_most_spec =
     tie.close
     (tie.spec
     invariant-loop

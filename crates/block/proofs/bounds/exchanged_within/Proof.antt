@@ -7,21 +7,21 @@ use lib.ListN.{length, get_or}
 use lib.Seq.{take_all}
 use borrow.Author.Rules.{rules}
 use Rattle.lists.specs.Listed.{length-listed}
-use Rattle.block.specs.AtMostLaws.{Largest, largest-none, largest-more}
-use Rattle.block.specs.Check.{allAtMost}
+use Rattle.block.specs.AtMostLaws.{Largest, largest_none, largest_more}
+use Rattle.block.specs.Check.{all_at_most}
 use Rattle.block.specs.ExchangedLaws.{exchanged-word}
-use Rattle.block.specs.Words.{exchanged, exchangedAll}
+use Rattle.block.specs.Words.{exchanged, exchanged_all}
 use Rattle.block.proofs.bounds.exchanged_within.Statement.{statement}
 use Rattle.block.proofs.bounds.exchanged_within.Tie as tie
 
 abbrev invariant-loop : tie.invariant-loop
-invariant-loop row top largest₀ i₀ largest i = (i ≤ length row) × Largest (exchangedAll row) i largest
+invariant-loop row top largest₀ i₀ largest i = (i ≤ length row) × Largest (exchanged_all row) i largest
 
 abbrev decreases-loop : tie.decreases-loop
 decreases-loop row top largest₀ i₀ largest i = length row - i
 
 loop-holds : tie.Need-loop-init invariant-loop decreases-loop
-loop-holds c = (search rules, largest-none (exchangedAll c.before.args.row.now))
+loop-holds c = (search rules, largest_none (exchanged_all c.before.args.row.now))
 
 mul-exchanged : tie.Need-overflow-mul-exchanged invariant-loop decreases-loop
 mul-exchanged c = search rules
@@ -45,22 +45,22 @@ loop-again : tie.Need-loop-preserved invariant-loop decreases-loop
 loop-again c =
     let here = c.before.before.before.before.loop in
     let row = c.before.before.before.before.before.before.args.row.now in
-    let words = exchangedAll row in
+    let words = exchanged_all row in
     let inside : here.i < length words = omega (arith, length-listed (λ k. exchanged (get_or row k 0)) (length row)) in
     let read : c.larger.result ≡ max here.largest (get_or words here.i 0)
     = rw (exchanged-word row here.i (search rules), ← c.before.exchanged.ensures) c.larger.ensures in
-    (search rules, largest-more words here.i here.largest c.larger.result inside read here.invariant.1)
+    (search rules, largest_more words here.i here.largest c.larger.result inside read here.invariant.1)
 
 returns : tie.Need-returns invariant-loop decreases-loop
 returns c =
     let here = c.before.loop in
     let args = c.before.before.before.args in
     let row = args.row.now in
-    let all : length (exchangedAll row) ≤ here.i = omega (arith, length-listed (λ k. exchanged (get_or row k 0)) (length row)) in
-    sym (here.invariant.1 args.top) ∙ ap (allAtMost args.top) (take_all here.i (exchangedAll row) all)
+    let all : length (exchanged_all row) ≤ here.i = omega (arith, length-listed (λ k. exchanged (get_or row k 0)) (length row)) in
+    sym (here.invariant.1 args.top) ∙ ap (all_at_most args.top) (take_all here.i (exchanged_all row) all)
 
-pub exchanged-within-spec : {M : Type 1} → statement M
-exchanged-within-spec =
+pub exchanged_within_spec : {M : Type 1} → statement M
+exchanged_within_spec =
     tie.close
     (tie.spec
     invariant-loop

@@ -5,8 +5,8 @@ use mathlib.Core.Path.{sym, ap, ◌∙◌}
 use lib.ListN.{length}
 use lib.Seq.{take_all}
 use borrow.Author.Rules.{rules}
-use Rattle.block.specs.AtMostLaws.{Largest, largest-none, largest-more}
-use Rattle.block.specs.Check.{allAtMost}
+use Rattle.block.specs.AtMostLaws.{Largest, largest_none, largest_more}
+use Rattle.block.specs.Check.{all_at_most}
 use Rattle.block.proofs.bounds.within.Statement.{statement}
 use Rattle.block.proofs.bounds.within.Tie as tie
 
@@ -17,7 +17,7 @@ abbrev decreases-loop : tie.decreases-loop
 decreases-loop words top largest₀ i₀ largest i = length words - i
 
 loop-holds : tie.Need-loop-init invariant-loop decreases-loop
-loop-holds c = (search rules, largest-none c.before.args.words.now)
+loop-holds c = (search rules, largest_none c.before.args.words.now)
 
 mul-larger : tie.Need-overflow-mul-larger invariant-loop decreases-loop
 mul-larger c = search rules
@@ -38,16 +38,16 @@ loop-again : tie.Need-loop-preserved invariant-loop decreases-loop
 loop-again c =
     let here = c.before.before.before.loop in
     let words = c.before.before.before.before.before.args.words.now in
-    (search rules, largest-more words here.i here.largest c.larger.result (search rules) c.larger.ensures here.invariant.1)
+    (search rules, largest_more words here.i here.largest c.larger.result (search rules) c.larger.ensures here.invariant.1)
 
 returns : tie.Need-returns invariant-loop decreases-loop
 returns c =
     let here = c.before.loop in
     let args = c.before.before.before.args in
-    sym (here.invariant.1 args.top) ∙ ap (allAtMost args.top) (take_all here.i args.words.now (search rules))
+    sym (here.invariant.1 args.top) ∙ ap (all_at_most args.top) (take_all here.i args.words.now (search rules))
 
-pub within-spec : {M : Type 1} → statement M
-within-spec =
+pub within_spec : {M : Type 1} → statement M
+within_spec =
     tie.close
     (tie.spec
     invariant-loop

@@ -6,8 +6,8 @@ use mathlib.Core.Logic.{⊎_elim}
 use native.Mathlib.Omega.{arith}
 use lib.ListN.{length}
 use borrow.Author.Rules.{rules}
-use Rattle.lists.specs.Passed.{Passed, passed_none, passed-alike, passed_apart, passed-all}
-use Rattle.lists.specs.SameBytes.{apart-not-same}
+use Rattle.lists.specs.Passed.{Passed, passed_none, passed_alike, passed_apart, passed_all}
+use Rattle.lists.specs.SameBytes.{apart_not_same}
 use Rattle.block.proofs.bytes.same.Statement.{statement}
 use Rattle.block.proofs.bytes.same.Tie as tie
 
@@ -18,7 +18,7 @@ abbrev decreases-loop : tie.decreases-loop
 decreases-loop a b same₀ i₀ same i = length a - i
 
 returns : tie.Need-returns invariant-loop decreases-loop
-returns c = apart-not-same _ _ (λ same. c.if1.true (ap length same))
+returns c = apart_not_same _ _ (λ same. c.if1.true (ap length same))
 
 loop-holds : tie.Need-loop-init invariant-loop decreases-loop
 loop-holds c = passed_none
@@ -38,11 +38,11 @@ loop-less c = search rules
 loop-again : tie.Need-loop-preserved invariant-loop decreases-loop
 loop-again c =
     let here = c.before.before.before.before.loop in
-    ⊎_elim (λ w. passed_apart here.invariant (omega arith) w.0.taken w.1) (λ w. passed-alike here.invariant (omega arith) w.0.left w.1)
+    ⊎_elim (λ w. passed_apart here.invariant (omega arith) w.0.taken w.1) (λ w. passed_alike here.invariant (omega arith) w.0.left w.1)
     c.if2.branch
 
-returns-2 : tie.Need-returns-2 invariant-loop decreases-loop
-returns-2 c = passed-all c.before.loop.same c.before.loop.invariant c.loop-test.false (omega arith)
+returns_2 : tie.Need-returns-2 invariant-loop decreases-loop
+returns_2 c = passed_all c.before.loop.same c.before.loop.invariant c.loop-test.false (omega arith)
 
 pub same_spec : {M : Type 1} → statement M
 same_spec =
@@ -57,4 +57,4 @@ same_spec =
     add-i
     loop-less
     loop-again
-    returns-2)
+    returns_2)

@@ -44,16 +44,16 @@ returns c =
       eq-eqb _ _ c.before.before.before.if1.true,
     )
 
-returns-2 : tie.Need-returns-2
+returns_2 : tie.Need-returns-2
 unfolding checked
-returns-2 c =
+returns_2 c =
     let first = c.before.before in
     let summed = first.before.before in
     let row = summed.before.before.before.args.row.now in
     rw (exchanged-word row 254 (search rules), ← first.exchanged.ensures, ← summed.sums.ensures.0, ne_eqb _ _ c.if1.false)
 
-pub agrees-spec : {M : Type 1} → statement M
-agrees-spec =
+pub agrees_spec : {M : Type 1} → statement M
+agrees_spec =
     tie.close
     (tie.spec
     slice-aggregate-sums
@@ -63,4 +63,4 @@ agrees-spec =
     shared-slice-read-exchanged-2
     exchanged-requires-2
     returns
-    returns-2)
+    returns_2)

@@ -7,29 +7,29 @@ use native.Mathlib.Omega.{arith}
 use lib.ListN.{length, take, drop_of_length-le}
 use lib.Seq.{length-take-le}
 use borrow.Author.Rules.{rules}
-use Rattle.lists.specs.Below.{Below, below-take}
+use Rattle.lists.specs.Below.{Below, below_take}
 use Rattle.lists.specs.Patched.{patched}
-use Rattle.block.specs.Check.{plainCheck, weightedCheck, sealed}
-use Rattle.block.specs.CheckLaws.{checks-take}
-use Rattle.block.specs.TakenLaws.{taken-block}
+use Rattle.block.specs.Check.{plain_check, weighted_check, sealed}
+use Rattle.block.specs.CheckLaws.{checks_take}
+use Rattle.block.specs.TakenLaws.{taken_block}
 use Rattle.block.specs.Weights.{weights}
-use Rattle.block.specs.WordLaws.{bytes-words}
-use Rattle.block.specs.WordParts.{length-bytes, words_take, bytes-append}
-use Rattle.block.specs.Words.{bytes_of, words_of, exchangedAll}
+use Rattle.block.specs.WordLaws.{bytes_words}
+use Rattle.block.specs.WordParts.{length_bytes, words_take, bytes_append}
+use Rattle.block.specs.Words.{bytes_of, words_of, exchanged_all}
 use Rattle.block.proofs.check.seal.Statement.{statement}
 use Rattle.block.proofs.check.seal.Tie as tie
 
 -- the check words of all words, laid over the last two
-sealed-bytes : (bytes : List ℕ) (plain weighted : ℕ) → length bytes ≡ 512 → Below 256 bytes
-    → plain ≡ plainCheck (words_of bytes) → weighted ≡ weightedCheck (words_of bytes)
+sealed_bytes : (bytes : List ℕ) (plain weighted : ℕ) → length bytes ≡ 512 → Below 256 bytes
+    → plain ≡ plain_check (words_of bytes) → weighted ≡ weighted_check (words_of bytes)
     → patched bytes 508 (bytes_of (plain ∷ weighted ∷ [])) ≡ bytes_of (sealed (take 254 (words_of bytes)))
 unfolding sealed
-sealed-bytes bytes plain weighted size below p w =
+sealed_bytes bytes plain weighted size below p w =
     let words = words_of bytes in
     let last = plain ∷ weighted ∷ [] in
-    let end : length bytes ≤ 508 + length (bytes_of last) = omega (arith, length-bytes last) in
-    let front = bytes-words 254 (take 508 bytes) (length-take-le 508 bytes (omega arith)) (below-take 256 508 bytes below) in
-    rw ((checks-take words).0, (checks-take words).1, ← p, ← w, bytes-append (take 254 words) last, ← words_take 254 bytes, front)
+    let end : length bytes ≤ 508 + length (bytes_of last) = omega (arith, length_bytes last) in
+    let front = bytes_words 254 (take 508 bytes) (length-take-le 508 bytes (omega arith)) (below_take 256 508 bytes below) in
+    rw ((checks_take words).0, (checks_take words).1, ← p, ← w, bytes_append (take 254 words) last, ← words_take 254 bytes, front)
     (rw (drop_of_length-le bytes end, append-nil))
 
 slice-aggregate-take-exchanged : tie.Need-slice-aggregate-take-exchanged
@@ -66,13 +66,13 @@ returns c =
     let bytes = start.args.block.now in
     let row = taken.take-exchanged.new.1.1.0 in
     let below : Below 256 bytes = λ i h. (known.slice-known.given i).fits in
-    let words : exchangedAll row ≡ words_of bytes = taken-block bytes below start.requires taken.take-exchanged.ensures in
+    let words : exchanged_all row ≡ words_of bytes = taken_block bytes below start.requires taken.take-exchanged.ensures in
     let sums = rw words at summed.sums.ensures in
     c.before.before.put-words.ensures
-    ∙ sealed-bytes bytes summed.sums.result.plain summed.sums.result.weighted start.requires below sums.0 sums.1
+    ∙ sealed_bytes bytes summed.sums.result.plain summed.sums.result.weighted start.requires below sums.0 sums.1
 
-pub seal-spec : {M : Type 1} → statement M
-seal-spec =
+pub seal_spec : {M : Type 1} → statement M
+seal_spec =
     tie.close
     (tie.spec
     slice-aggregate-take-exchanged

@@ -9,7 +9,7 @@ use native.Mathlib.Omega.{arith}
 use lib.ListN.{length, get_or}
 use borrow.Author.Rules.{rules}
 use Rattle.lists.specs.Total.{total}
-use Rattle.block.specs.ExchangedLaws.{plain-minus, weighted-minus}
+use Rattle.block.specs.ExchangedLaws.{plain_minus, weighted_minus}
 use Rattle.block.specs.Weights.{length-weights, weight-at}
 use Rattle.block.proofs.check.sums.Statement.{statement}
 use Rattle.block.proofs.check.sums.Tie as tie
@@ -17,19 +17,19 @@ use Rattle.block.proofs.check.sums.Tie as tie
 -- What i turns have made: the sums of the first i of the row, their weights reduced modulo 257, and the bounds that keep them below 2^32.
 record Summed (row : List ℕ) (plain weighted i : ℕ) : Type 0 where
   passed : i ≤ 254
-  plain-is : plain ≡ total (λ k. get_or row k 0) i
-  weighted-is : weighted ≡ total (λ k. get_or row k 0 * (3 ^ k % 257)) i
-  plain-le : plain ≤ i * 65535
-  weighted-le : weighted ≤ i * (65535 * 256)
+  plain_is : plain ≡ total (λ k. get_or row k 0) i
+  weighted_is : weighted ≡ total (λ k. get_or row k 0 * (3 ^ k % 257)) i
+  plain_le : plain ≤ i * 65535
+  weighted_le : weighted ≤ i * (65535 * 256)
 
-summed-none : (row : List ℕ) → Summed row 0 0 0
+summed_none : (row : List ℕ) → Summed row 0 0 0
 unfolding total
-summed-none row = record {
+summed_none row = record {
   passed = omega arith;
-  plain-is = refl;
-  weighted-is = refl;
-  plain-le = omega arith;
-  weighted-le = omega arith;
+  plain_is = refl;
+  weighted_is = refl;
+  plain_le = omega arith;
+  weighted_le = omega arith;
 }
 
 product_le : (w weight i : ℕ) → w < 65536 → weight ≡ 3 ^ i % 257 → w * weight ≤ 65535 * 256
@@ -37,15 +37,15 @@ product_le w weight i h e =
     let small : weight ≤ 256 = omega arith in
     mul-le-mul (le-pred_of_lt h) small
 
-summed-more : (row : List ℕ) (plain weighted weight i w : ℕ) → Summed row plain weighted i → i < 254 → w ≡ get_or row i 0 → w < 65536 → weight ≡ 3 ^ i % 257
+summed_more : (row : List ℕ) (plain weighted weight i w : ℕ) → Summed row plain weighted i → i < 254 → w ≡ get_or row i 0 → w < 65536 → weight ≡ 3 ^ i % 257
     → Summed row (plain + w) (weighted + w * weight) (i + 1)
 unfolding total
-summed-more row plain weighted weight i w s l e h g = rw add-one record {
+summed_more row plain weighted weight i w s l e h g = rw add-one record {
   passed = l;
-  plain-is = rw (e, s.plain-is);
-  weighted-is = rw (e, s.weighted-is, g);
-  plain-le = let p = s.plain-le in omega arith;
-  weighted-le = let p = s.weighted-le in omega (arith, product_le w weight i h g);
+  plain_is = rw (e, s.plain-is);
+  weighted_is = rw (e, s.weighted-is, g);
+  plain_le = let p = s.plain-le in omega arith;
+  weighted_le = let p = s.weighted-le in omega (arith, product_le w weight i h g);
 }
 
 abbrev invariant-loop : tie.invariant-loop
@@ -55,7 +55,7 @@ abbrev decreases-loop : tie.decreases-loop
 decreases-loop row table plain₀ weighted₀ i₀ plain weighted i = 254 - i
 
 loop-holds : tie.Need-loop-init invariant-loop decreases-loop
-loop-holds c = summed-none c.before.before.args.row.now
+loop-holds c = summed_none c.before.before.args.row.now
 
 mul_wide : tie.Need-overflow-mul-wide invariant-loop decreases-loop
 mul_wide c = search rules
@@ -110,7 +110,7 @@ loop-again c =
     let word = c.before.before in
     let here = word.before.before.before.loop in
     let row = word.before.before.before.before.before.before.args.row.now in
-    summed-more row here.plain here.weighted c.wide2.result here.i word.wide.result here.invariant (omega arith) word.wide.ensures (small word) (weight c)
+    summed_more row here.plain here.weighted c.wide2.result here.i word.wide.result here.invariant (omega arith) word.wide.ensures (small word) (weight c)
 
 minus-requires : tie.Need-minus-requires invariant-loop decreases-loop
 minus-requires c κs = search rules
@@ -125,10 +125,10 @@ returns c =
     let row = start.args.row.now in
     let end : here.i ≡ 254 = let p = here.invariant.passed in omega arith in
     let sums = rw end at here.invariant in
-    (c.before.minus.ensures ∙ rw sums.plain-is (plain-minus row start.requires.0), c.minus2.ensures ∙ rw sums.weighted-is (weighted-minus row start.requires.0))
+    (c.before.minus.ensures ∙ rw sums.plain-is (plain_minus row start.requires.0), c.minus2.ensures ∙ rw sums.weighted-is (weighted_minus row start.requires.0))
 
-pub sums-spec : {M : Type 1} → statement M
-sums-spec =
+pub sums_spec : {M : Type 1} → statement M
+sums_spec =
     tie.close
     (tie.spec
     invariant-loop

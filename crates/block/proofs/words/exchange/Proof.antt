@@ -4,7 +4,7 @@ use Prim.Native.Nat.{◌-◌}
 use mathlib.Core.Path.{ap, ◌∙◌}
 use lib.ListN.{length, get_or}
 use borrow.Author.Rules.{rules}
-use Rattle.lists.specs.Filling.{Filling, filling-none, filling-more, filling-ahead, filling-done}
+use Rattle.lists.specs.Filling.{Filling, filling_none, filling_more, filling_ahead, filling_done}
 use Rattle.block.specs.Words.{exchanged}
 use Rattle.block.proofs.words.exchange.Statement.{statement}
 use Rattle.block.proofs.words.exchange.Tie as tie
@@ -16,7 +16,7 @@ abbrev decreases-loop : tie.decreases-loop
 decreases-loop row₀ i₀ row i = length row₀ - i
 
 loop-holds : tie.Need-loop-init invariant-loop decreases-loop
-loop-holds c = filling-none
+loop-holds c = filling_none
 
 mul-exchanged : tie.Need-overflow-mul-exchanged invariant-loop decreases-loop
 mul-exchanged c = search rules
@@ -43,16 +43,16 @@ loop-again : tie.Need-loop-preserved invariant-loop decreases-loop
 loop-again c =
     let turn = c.before.before in
     let here = turn.before.loop in
-    filling-more here.invariant turn.loop-test.true (c.exchanged.ensures ∙ ap exchanged (filling-ahead here.invariant turn.loop-test.true))
+    filling_more here.invariant turn.loop-test.true (c.exchanged.ensures ∙ ap exchanged (filling_ahead here.invariant turn.loop-test.true))
 
 same_length : tie.Need-same-length invariant-loop decreases-loop
 same_length c = search rules
 
 returns : tie.Need-returns invariant-loop decreases-loop
-returns c = filling-done c.before.loop.invariant c.loop-test.false
+returns c = filling_done c.before.loop.invariant c.loop-test.false
 
-pub exchange-spec : {M : Type 1} → statement M
-exchange-spec =
+pub exchange_spec : {M : Type 1} → statement M
+exchange_spec =
     tie.close
     (tie.spec
     invariant-loop

@@ -38,8 +38,8 @@ returns c =
     c.pair.ensures ∙ turned (get_or start.args.bytes.now (2 * start.args.i) 0) (get_or start.args.bytes.now (2 * start.args.i + 1) 0) (byte _) (byte _)
     ∙ sym (ap exchanged (get_d_words start.args.bytes.now start.args.i start.requires))
 
-pub exchanged-at-spec : {M : Type 1} → statement M
-exchanged-at-spec =
+pub exchanged_at_spec : {M : Type 1} → statement M
+exchanged_at_spec =
     tie.close
     (tie.spec
     mul-first

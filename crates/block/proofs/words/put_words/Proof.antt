@@ -8,8 +8,8 @@ use native.Mathlib.Omega.{arith}
 use lib.ListN.{length, take, get_or, set, length-append, length-set}
 use lib.Seq.{length-take-le, take-suc, take_all}
 use borrow.Author.Rules.{rules}
-use Rattle.lists.specs.Patched.{patched, patched-none, set-patched}
-use Rattle.block.specs.WordParts.{length-bytes, bytes-append}
+use Rattle.lists.specs.Patched.{patched, patched_none, set-patched}
+use Rattle.block.specs.WordParts.{length_bytes, bytes_append}
 use Rattle.block.specs.Words.{bytes_of}
 use Rattle.block.proofs.words.put_words.Statement.{statement}
 use Rattle.block.proofs.words.put_words.Tie as tie
@@ -18,7 +18,7 @@ use Rattle.block.proofs.words.put_words.Tie as tie
 next_word : (words : List ℕ) (i : ℕ) → i < length words
     → bytes_of (take (i + 1) words) ≡ (bytes_of (take i words) ++ (get_or words i 0 / 256 ∷ [])) ++ (get_or words i 0 % 256 ∷ [])
 unfolding bytes_of
-next_word words i h = rw (add-one, take-suc words i 0, bytes-append, append_assoc)
+next_word words i h = rw (add-one, take-suc words i 0, bytes_append, append_assoc)
 
 -- and two stores more
 set_word : (bytes : List ℕ) (from i : ℕ) (words : List ℕ) → i < length words → 2 * from + 2 * length words ≤ length bytes
@@ -27,7 +27,7 @@ set_word : (bytes : List ℕ) (from i : ℕ) (words : List ℕ) → i < length w
 set_word bytes from i words h room =
     let w = get_or words i 0 in
     let done = bytes_of (take i words) in
-    let size : length done ≡ 2 * i = omega (arith, length-bytes (take i words), length-take-le i words (omega arith)) in
+    let size : length done ≡ 2 * i = omega (arith, length_bytes (take i words), length-take-le i words (omega arith)) in
     let high : 2 * (from + i) ≡ 2 * from + length done = omega arith in
     let low : 2 * from + length done + 1 ≡ 2 * from + length (done ++ (w / 256 ∷ [])) = omega (arith, length-append done (w / 256 ∷ [])) in
     rw (next_word words i h, high, set-patched bytes (2 * from) done (w / 256) (omega arith), low)
@@ -44,7 +44,7 @@ loop-holds : tie.Need-loop-init invariant-loop decreases-loop
 unfolding bytes_of
 loop-holds c =
     let args = c.before.before.args in
-    (search rules, refl, sym (patched-none args.bytes.now (2 * args.from)))
+    (search rules, refl, sym (patched_none args.bytes.now (2 * args.from)))
 
 mul-w : tie.Need-overflow-mul-w invariant-loop decreases-loop
 mul-w c = search rules
@@ -95,8 +95,8 @@ returns c =
     let words = c.before.before.before.before.args.words.now in
     here.invariant.2 ∙ rw (take_all here.i words (omega arith))
 
-pub put-words-spec : {M : Type 1} → statement M
-put-words-spec =
+pub put_words_spec : {M : Type 1} → statement M
+put_words_spec =
     tie.close
     (tie.spec
     invariant-loop

@@ -4,7 +4,7 @@ use Prim.Native.Nat.{◌+◌, ◌-◌}
 use native.Mathlib.Omega.{arith}
 use lib.ListN.{length, get_or}
 use borrow.Author.Rules.{rules}
-use Rattle.lists.specs.Filling.{Filling, filling-none, filling-more, filling-done}
+use Rattle.lists.specs.Filling.{Filling, filling_none, filling_more, filling_done}
 use Rattle.block.specs.Words.{words_of, exchanged}
 use Rattle.block.proofs.words.take_exchanged.Statement.{statement}
 use Rattle.block.proofs.words.take_exchanged.Tie as tie
@@ -16,7 +16,7 @@ abbrev decreases-loop : tie.decreases-loop
 decreases-loop bytes from row₀ i₀ row i = length row₀ - i
 
 loop-holds : tie.Need-loop-init invariant-loop decreases-loop
-loop-holds c = filling-none
+loop-holds c = filling_none
 
 add-exchanged-at : tie.Need-overflow-add-exchanged-at invariant-loop decreases-loop
 add-exchanged-at c = search rules
@@ -39,16 +39,16 @@ loop-less c = search rules
 loop-again : tie.Need-loop-preserved invariant-loop decreases-loop
 loop-again c =
     let turn = c.before in
-    filling-more turn.before.loop.invariant turn.loop-test.true c.exchanged-at.ensures
+    filling_more turn.before.loop.invariant turn.loop-test.true c.exchanged-at.ensures
 
 same_length : tie.Need-same-length invariant-loop decreases-loop
 same_length c = search rules
 
 returns : tie.Need-returns invariant-loop decreases-loop
-returns c = filling-done c.before.loop.invariant c.loop-test.false
+returns c = filling_done c.before.loop.invariant c.loop-test.false
 
-pub take-exchanged-spec : {M : Type 1} → statement M
-take-exchanged-spec =
+pub take_exchanged_spec : {M : Type 1} → statement M
+take_exchanged_spec =
     tie.close
     (tie.spec
     invariant-loop

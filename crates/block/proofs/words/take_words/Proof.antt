@@ -28,6 +28,6 @@ returns c =
     let below : Below 256 bytes = λ i h. (first.before.before.before.shared-slice-known.given i).fits in
     second.exchange.ensures ∙ taken bytes below start.args.from (length start.args.row.now) start.requires first.take-exchanged.ensures
 
-pub take-words-spec : {M : Type 1} → statement M
-take-words-spec =
+pub take_words_spec : {M : Type 1} → statement M
+take_words_spec =
     tie.close (tie.spec take-exchanged-requires exchange-requires same_length returns)

@@ -29,8 +29,8 @@ returns c =
     let start = c.before.before.before.before in
     c.pair.ensures ∙ sym (get_d_words start.args.bytes.now start.args.i start.requires)
 
-pub word-at-spec : {M : Type 1} → statement M
-word-at-spec =
+pub word_at_spec : {M : Type 1} → statement M
+word_at_spec =
     tie.close
     (tie.spec
     mul-high

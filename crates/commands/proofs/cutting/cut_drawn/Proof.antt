@@ -44,14 +44,14 @@ slice-aggregate-cut-into c = length_front (2048 * c.before.before.slots-of.resul
 cut-into-requires : tie.Need-cut-into-requires
 cut-into-requires c κs = sym (length_front (2048 * c.before.before.slots-of.result) 32768 (omega arith))
 
-same-length-2 : tie.Need-same-length-2
-same-length-2 c = search rules
+same_length_2 : tie.Need-same-length-2
+same_length_2 c = search rules
 
-returns-2 : tie.Need-returns-2
-returns-2 c = search rules
+returns_2 : tie.Need-returns-2
+returns_2 c = search rules
 
-pub cut-drawn-spec : {M : Type 1} → statement M
-cut-drawn-spec =
+pub cut_drawn_spec : {M : Type 1} → statement M
+cut_drawn_spec =
     tie.close
     (tie.spec
     fill-requires
@@ -66,5 +66,5 @@ cut-drawn-spec =
     array-borrow-prefix-tray
     slice-aggregate-cut-into
     cut-into-requires
-    same-length-2
-    returns-2)
+    same_length_2
+    returns_2)

@@ -13,14 +13,14 @@ bound t l h k = omega (arith, mul-le-mul_right l h)
 returns : tie.Need-returns
 returns c = search rules
 
-returns-2 : tie.Need-returns-2
-returns-2 c = search rules
+returns_2 : tie.Need-returns-2
+returns_2 c = search rules
 
 mul-result : tie.Need-overflow-mul-result
 mul-result c = let a = c.before.before.args in omega (arith, bound a.t a.l (omega arith) (omega arith))
 
-returns-3 : tie.Need-returns-3
-returns-3 c = let a = c.before.before.args in bound a.t a.l (omega arith) (omega arith)
+returns_3 : tie.Need-returns-3
+returns_3 c = let a = c.before.before.args in bound a.t a.l (omega arith) (omega arith)
 
-pub words-for-spec : {M : Type 1} → statement M
-words-for-spec = tie.close (tie.spec returns returns-2 mul-result returns-3)
+pub words_for_spec : {M : Type 1} → statement M
+words_for_spec = tie.close (tie.spec returns returns_2 mul-result returns_3)

@@ -7,7 +7,7 @@ use lib.ListN.{length, get_or, take}
 use lib.Seq.{take_all}
 use borrow.Author.Rules.{rules}
 use Rattle.compare.specs.Parts.{in_parts}
-use Rattle.compare.specs.PartLaws.{have-fewer, in-part-most, length_more}
+use Rattle.compare.specs.PartLaws.{have_fewer, in_part_most, length_more}
 use Rattle.compare.proofs.look.count.Statement.{statement}
 use Rattle.compare.proofs.look.count.Tie as tie
 
@@ -31,12 +31,12 @@ cast-words-in : tie.Need-overflow-cast-words-in invariant-loop decreases-loop
 cast-words-in c = omega (arith, c.before.before.before.before.before.before.requires.0, c.before.before.before.before.before.before.requires.1.0 c.before.before.loop.q (omega arith))
 
 words-in-requires : tie.Need-words-in-requires invariant-loop decreases-loop
-words-in-requires c κs = have-fewer c.before.before.before.before.before.before.requires.0 (c.before.before.before.before.before.before.requires.1.0 c.before.before.loop.q (omega arith))
+words-in-requires c κs = have_fewer c.before.before.before.before.before.before.requires.0 (c.before.before.before.before.before.before.requires.1.0 c.before.before.loop.q (omega arith))
 
 most : (c : tie.After-words-in invariant-loop decreases-loop) → c.words-in.result ≤ 8
 most c =
     let args = c.before.before.before.before.before.before.before.args in
-    omega (arith, c.words-in.ensures, in-part-most args.first.now args.second.now (get_or args.parts.now c.before.before.before.loop.q 0))
+    omega (arith, c.words-in.ensures, in_part_most args.first.now args.second.now (get_or args.parts.now c.before.before.before.loop.q 0))
 
 add_words : tie.Need-overflow-add-words invariant-loop decreases-loop
 add_words c = omega (arith, c.before.before.before.loop.invariant, c.before.before.before.before.before.before.before.requires.1.1, most c)

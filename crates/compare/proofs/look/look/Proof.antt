@@ -6,7 +6,7 @@ use native.Mathlib.Omega.{arith}
 use lib.ListN.{set}
 use borrow.Author.Rules.{rules}
 use Rattle.compare.specs.Parts.{Looked}
-use Rattle.compare.proofs.Looking.{looked-none, looked-parts, looked-next}
+use Rattle.compare.proofs.Looking.{looked_none, looked_parts, looked_next}
 use Rattle.compare.proofs.look.look.Statement.{statement}
 use Rattle.compare.proofs.look.look.Tie as tie
 
@@ -17,16 +17,16 @@ abbrev decreases-loop : tie.decreases-loop
 decreases-loop first second m parts₀ found₀ p₀ parts found p = m - p
 
 loop-holds : tie.Need-loop-init invariant-loop decreases-loop
-loop-holds c = (omega arith, looked-none)
+loop-holds c = (omega arith, looked_none)
 
 cast-parts : tie.Need-overflow-cast-parts invariant-loop decreases-loop
 cast-parts c = search rules
 
 mul-parts : tie.Need-overflow-mul-parts invariant-loop decreases-loop
-mul-parts c = omega (arith, looked-parts c.before.loop.invariant.1)
+mul-parts c = omega (arith, looked_parts c.before.loop.invariant.1)
 
 slice-write-parts : tie.Need-slice-write-parts invariant-loop decreases-loop
-slice-write-parts c = omega (arith, looked-parts c.before.loop.invariant.1, c.before.loop.invariant.1.size)
+slice-write-parts c = omega (arith, looked_parts c.before.loop.invariant.1, c.before.loop.invariant.1.size)
 
 part-differs-requires : tie.Need-part-differs-requires invariant-loop decreases-loop
 part-differs-requires c κs = search rules
@@ -38,10 +38,10 @@ next : (c : tie.After-part-differs invariant-loop decreases-loop)
     Looked args.first.now args.second.now (here.p + 1) args.parts.now (set here.parts here.found here.p) (here.found + c.part-differs.result)
 next c =
     let before = c.before.before.loop.invariant.1 in
-    looked-next before (omega (arith, looked-parts before, before.size)) c.part-differs.ensures
+    looked_next before (omega (arith, looked_parts before, before.size)) c.part-differs.ensures
 
 add-found : tie.Need-overflow-add-found invariant-loop decreases-loop
-add-found c = omega (arith, looked-parts (next c))
+add-found c = omega (arith, looked_parts (next c))
 
 add-p : tie.Need-overflow-add-p invariant-loop decreases-loop
 add-p c = search rules

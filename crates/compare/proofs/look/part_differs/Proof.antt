@@ -4,7 +4,7 @@ use Prim.Native.Nat.{◌+◌, ◌-◌, ◌*◌}
 use mathlib.Core.Path.{◌≡◌, sym, ◌∙◌}
 use native.Mathlib.Omega.{arith}
 use borrow.Author.Rules.{rules}
-use Rattle.compare.specs.Parts.{partDiffers}
+use Rattle.compare.specs.Parts.{part_differs}
 use Rattle.compare.proofs.look.part_differs.Statement.{statement}
 use Rattle.compare.proofs.look.part_differs.Tie as tie
 
@@ -39,21 +39,21 @@ same-requires : tie.Need-same-requires
 same-requires c κs = search rules
 
 returns : tie.Need-returns
-unfolding partDiffers
+unfolding part_differs
 returns c =
     let at = 16 * c.before.before.before.before.before.before.args.p in
     let whole : at + 16 - at ≡ 16 = omega arith in
     rw (rw whole at (sym c.before.same.ensures ∙ c.if1.true))
 
-returns-2 : tie.Need-returns-2
-unfolding partDiffers
-returns-2 c =
+returns_2 : tie.Need-returns-2
+unfolding part_differs
+returns_2 c =
     let at = 16 * c.before.before.before.before.before.before.args.p in
     let whole : at + 16 - at ≡ 16 = omega arith in
     rw (rw whole at (sym c.before.same.ensures ∙ c.if1.false))
 
-pub part-differs-spec : {M : Type 1} → statement M
-part-differs-spec =
+pub part_differs_spec : {M : Type 1} → statement M
+part_differs_spec =
     tie.close
     (tie.spec
     mul_at
@@ -67,4 +67,4 @@ part-differs-spec =
     part-same-end-2
     same-requires
     returns
-    returns-2)
+    returns_2)

@@ -11,8 +11,8 @@ use Rattle.lists.specs.Chosen.{chosen}
 use Rattle.lists.specs.From.{from}
 use Rattle.compare.specs.Compare.{differs}
 use Rattle.compare.specs.CompareLaws.{differs-told}
-use Rattle.compare.specs.Parts.{inPart}
-use Rattle.compare.proofs.Turns.{CountedTo, counted_none, counted-most, counted-joined, counted-skipped}
+use Rattle.compare.specs.Parts.{in_part}
+use Rattle.compare.proofs.Turns.{CountedTo, counted_none, counted_most, counted_joined, counted_skipped}
 use Rattle.compare.proofs.look.words_in.Statement.{statement}
 use Rattle.compare.proofs.look.words_in.Tie as tie
 
@@ -35,7 +35,7 @@ same-word-requires : tie.Need-same-word-requires invariant-loop decreases-loop
 same-word-requires c κs = search rules
 
 add-count : tie.Need-overflow-add-count invariant-loop decreases-loop
-add-count c = record { fits = omega (arith, counted-most c.before.before.before.loop.invariant) }
+add-count c = record { fits = omega (arith, counted_most c.before.before.before.loop.invariant) }
 
 add-j : tie.Need-overflow-add-j invariant-loop decreases-loop
 add-j c = search rules
@@ -47,23 +47,23 @@ loop-again : tie.Need-loop-preserved invariant-loop decreases-loop
 loop-again c =
     let here = c.before.before.before.loop in
     let answer = sym c.before.same_word.ensures in
-    ⊎_elim (λ w. counted-joined here.invariant (omega arith) (differs-told _ _ _ (answer ∙ not-true _ w.0.taken)) w.1)
-    (λ w. counted-skipped here.invariant (omega arith) (differs-told _ _ _ (answer ∙ not-false _ w.0.left)) w.1)
+    ⊎_elim (λ w. counted_joined here.invariant (omega arith) (differs-told _ _ _ (answer ∙ not-true _ w.0.taken)) w.1)
+    (λ w. counted_skipped here.invariant (omega arith) (differs-told _ _ _ (answer ∙ not-false _ w.0.left)) w.1)
     c.if1.branch
 
 cast-result : tie.Need-overflow-cast-result invariant-loop decreases-loop
-cast-result c = omega (arith, counted-most c.before.loop.invariant)
+cast-result c = omega (arith, counted_most c.before.loop.invariant)
 
 returns : tie.Need-returns invariant-loop decreases-loop
-unfolding inPart
+unfolding in_part
 returns c =
     let here = c.before.loop in
     let args = c.before.before.before.before.args in
     let all : here.j ≡ 8 = omega arith in
     here.invariant.counted ∙ ap (λ k. length (chosen (differs args.first.now args.second.now) (from (8 * args.p) k))) all
 
-pub words-in-spec : {M : Type 1} → statement M
-words-in-spec =
+pub words_in_spec : {M : Type 1} → statement M
+words_in_spec =
     tie.close
     (tie.spec
     invariant-loop

@@ -3,7 +3,7 @@
 use native.Mathlib.Omega.{arith}
 use borrow.Author.Rules.{rules}
 use Rattle.compare.specs.Compare.{difference}
-use Rattle.compare.specs.CompareLaws.{raw_word}
+use Rattle.compare.specs.CompareLaws.{raw_word_lem}
 use Rattle.compare.proofs.put.place.Statement.{statement}
 use Rattle.compare.proofs.put.place.Tie as tie
 
@@ -29,7 +29,7 @@ returns : tie.Need-returns
 unfolding difference
 returns c =
     let args = c.before.before.before.before.args in
-    rw (c.before.word_at.ensures, c.word-at2.ensures, ← raw_word args.first.now, ← raw_word args.second.now)
+    rw (c.before.word_at.ensures, c.word-at2.ensures, ← raw_word_lem args.first.now, ← raw_word_lem args.second.now)
 
-pub place-spec : {M : Type 1} → statement M
-place-spec = tie.close (tie.spec add-slot cast-slot cast-block cast-word word-at-requires word-at-requires-2 returns)
+pub place_spec : {M : Type 1} → statement M
+place_spec = tie.close (tie.spec add-slot cast-slot cast-block cast-word word-at-requires word-at-requires-2 returns)

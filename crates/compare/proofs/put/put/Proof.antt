@@ -4,8 +4,8 @@ use Prim.Native.Nat.{◌-◌}
 use native.Mathlib.Omega.{arith}
 use lib.ListN.{length}
 use borrow.Author.Rules.{rules}
-use Rattle.compare.specs.PartLaws.{have-fewer}
-use Rattle.compare.proofs.Putting.{laid-size, LaidParts, parts_none, parts_all, parts-room, parts_more}
+use Rattle.compare.specs.PartLaws.{have_fewer}
+use Rattle.compare.proofs.Putting.{laid_size, LaidParts, parts_none, parts_all, parts-room, parts_more}
 use Rattle.compare.proofs.put.put.Statement.{statement}
 use Rattle.compare.proofs.put.put.Tie as tie
 
@@ -33,7 +33,7 @@ put-part-requires : tie.Need-put-part-requires invariant-loop decreases-loop
 put-part-requires c κs =
     let start = c.before.before.before.before.before.before.before in
     let here = c.before.before.before.loop in
-    (have-fewer start.requires.0 (start.requires.1.0 here.q (omega arith)), parts-room here.invariant start.requires.1.1 (omega arith))
+    (have_fewer start.requires.0 (start.requires.1.0 here.q (omega arith)), parts-room here.invariant start.requires.1.1 (omega arith))
 
 add-q : tie.Need-overflow-add-q invariant-loop decreases-loop
 add-q c = search rules
@@ -47,7 +47,7 @@ loop-again c =
     parts_more c.before.before.before.before.before.loop.invariant start.requires.1.1 (omega arith) c.before.put-part.ensures
 
 same_length : tie.Need-same-length invariant-loop decreases-loop
-same_length c = laid-size c.before.loop.invariant.laid-parts
+same_length c = laid_size c.before.loop.invariant.laid_parts
 
 returns : tie.Need-returns invariant-loop decreases-loop
 returns c = parts_all c.before.loop.invariant (omega arith)

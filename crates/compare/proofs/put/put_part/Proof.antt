@@ -9,9 +9,9 @@ use borrow.Author.Rules.{rules}
 use Rattle.lists.specs.Chosen.{chosen}
 use Rattle.lists.specs.From.{from}
 use Rattle.compare.specs.Compare.{differs, difference}
-use Rattle.compare.specs.Parts.{inPart}
+use Rattle.compare.specs.Parts.{in_part}
 use Rattle.compare.specs.CompareLaws.{differs-told}
-use Rattle.compare.proofs.Putting.{laid-size, LaidTo, to_none, to-all, to-skipped, to_room, to-joined}
+use Rattle.compare.proofs.Putting.{laid_size, LaidTo, to_none, to_all, to_skipped, to_room, to_joined}
 use Rattle.compare.proofs.put.put_part.Statement.{statement}
 use Rattle.compare.proofs.put.put_part.Tie as tie
 
@@ -42,7 +42,7 @@ loop-less c = search rules
 loop-again : tie.Need-loop-preserved invariant-loop decreases-loop
 loop-again c =
     let here = c.before.before.before.loop in
-    to-skipped here.invariant (omega arith) (differs-told _ _ _ (sym c.before.same_word.ensures ∙ c.if1.true))
+    to_skipped here.invariant (omega arith) (differs-told _ _ _ (sym c.before.same_word.ensures ∙ c.if1.true))
 
 place-requires : tie.Need-place-requires invariant-loop decreases-loop
 place-requires c κs = search rules
@@ -56,7 +56,7 @@ other c = differs-told _ _ _ (sym c.before.before.same_word.ensures ∙ c.before
 all_room : (c : tie.After-place invariant-loop decreases-loop)
     → let args = c.before.before.before.before.before.before.before.args in
     args.at + length (chosen (differs args.first.now args.second.now) (from (8 * args.p) 8)) ≤ length args.list.now
-unfolding inPart
+unfolding in_part
 all_room c = c.before.before.before.before.before.before.before.requires.1
 
 row_room : (c : tie.After-place invariant-loop decreases-loop) → c.before.before.before.before.loop.next < length c.before.before.before.before.loop.list
@@ -77,17 +77,17 @@ loop-less-2 c = search rules
 loop-again-2 : tie.Need-loop-preserved-2 invariant-loop decreases-loop
 loop-again-2 c =
     let here = c.before.before.before.before.loop in
-    to-joined here.invariant (omega arith) (all_room c) (other c) c.place.ensures
+    to_joined here.invariant (omega arith) (all_room c) (other c) c.place.ensures
 
 same_length : tie.Need-same-length invariant-loop decreases-loop
-same_length c = laid-size c.before.loop.invariant.laid-to
+same_length c = laid_size c.before.loop.invariant.laid_to
 
 returns : tie.Need-returns invariant-loop decreases-loop
-unfolding inPart
-returns c = to-all c.before.loop.invariant (omega arith)
+unfolding in_part
+returns c = to_all c.before.loop.invariant (omega arith)
 
-pub put-part-spec : {M : Type 1} → statement M
-put-part-spec =
+pub put_part_spec : {M : Type 1} → statement M
+put_part_spec =
     tie.close
     (tie.spec
     invariant-loop

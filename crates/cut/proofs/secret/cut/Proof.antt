@@ -5,10 +5,10 @@ use mathlib.Core.Path.{◌≡◌, sym, ◌∙◌}
 use native.Mathlib.Omega.{arith}
 use lib.ListN.{length}
 use lib.Seq.{length-take-le}
-use Rattle.shares.specs.ColumnLaws.{columns-most}
+use Rattle.shares.specs.ColumnLaws.{columns_most}
 use Rattle.shares.specs.Fills.{fills, refuses}
-use Rattle.cut.specs.Cut.{cutNumber}
-use Rattle.cut.specs.CutLaws.{CutFacts, accepted-facts}
+use Rattle.cut.specs.Cut.{cut_number}
+use Rattle.cut.specs.CutLaws.{CutFacts, accepted_facts}
 use borrow.Author.Rules.{rules}
 use Rattle.cut.proofs.secret.cut.Statement.{statement}
 use Rattle.cut.proofs.secret.cut.Tie as tie
@@ -17,15 +17,15 @@ abbrev start : tie.After-refusal → tie.Start
 start c = c.before.before.before.before.before
 
 accepted : (c : tie.Then1)
-    → let args = (start c.before).args in cutNumber args.told args.stamp args.secret.now args.random.now args.tray.now ≡ 0
+    → let args = (start c.before).args in cut_number args.told args.stamp args.secret.now args.random.now args.tray.now ≡ 0
 accepted c = sym c.before.refusal.ensures ∙ c.if1.true
 
 facts : (c : tie.Then1)
     → let args = (start c.before).args in CutFacts args.told args.stamp args.secret.now args.random.now args.tray.now
-facts c = accepted-facts _ _ _ _ _ (accepted c)
+facts c = accepted_facts _ _ _ _ _ (accepted c)
 
 most : (c : tie.Then1) → let args = (start c.before).args in length args.secret.now * (args.told.order.t + 1) ≤ 7616
-most c = let known = (facts c).of-terms in columns-most _ _ known.length_most known.of-told.of-order.t-most
+most c = let known = (facts c).of_terms in columns_most _ _ known.length_most known.of_told.of_order.t_most
 
 refusal-requires : tie.Need-refusal-requires
 refusal-requires c κs = search rules
@@ -43,15 +43,15 @@ slice-aggregate-fill : tie.Need-slice-aggregate-fill
 slice-aggregate-fill c = sym (length-take-le _ _ (most c.before.before))
 
 array-borrow-prefix-row : tie.Need-array-borrow-prefix-row
-array-borrow-prefix-row c = (facts c.before.before).of-terms.length_most
+array-borrow-prefix-row c = (facts c.before.before).of_terms.length_most
 
 slice-aggregate-fill-2 : tie.Need-slice-aggregate-fill-2
-slice-aggregate-fill-2 c = sym (length-take-le _ _ (facts c.before.before.before).of-terms.length_most)
+slice-aggregate-fill-2 c = sym (length-take-le _ _ (facts c.before.before.before).of_terms.length_most)
 
 fill-requires : tie.Need-fill-requires
 fill-requires c κs =
     let then = c.before.before.before.before in
-    (accepted then, (length-take-le _ _ (most then), length-take-le _ _ (facts then).of-terms.length_most))
+    (accepted then, (length-take-le _ _ (most then), length-take-le _ _ (facts then).of_terms.length_most))
 
 same_length : tie.Need-same-length
 same_length c = search rules
@@ -62,11 +62,11 @@ returns c =
     let then = filled.before.before.before.before.before in
     fills then.before.refusal.ensures then.if1.true filled.fill.ensures
 
-same-length-2 : tie.Need-same-length-2
-same-length-2 c = search rules
+same_length_2 : tie.Need-same-length-2
+same_length_2 c = search rules
 
-returns-2 : tie.Need-returns-2
-returns-2 c = refuses c.before.refusal.ensures c.if1.false
+returns_2 : tie.Need-returns-2
+returns_2 c = refuses c.before.refusal.ensures c.if1.false
 
 pub cut_spec : {M : Type 1} → statement M
 cut_spec =
@@ -82,5 +82,5 @@ cut_spec =
     fill-requires
     same_length
     returns
-    same-length-2
-    returns-2)
+    same_length_2
+    returns_2)

@@ -3,7 +3,7 @@
 use Prim.Native.Nat.{◌-◌}
 use native.Mathlib.Omega.{arith}
 use lib.ListN.{length, get_or}
-use Rattle.lists.specs.Filling.{Filling, filling-none, filling-more, filling-copied}
+use Rattle.lists.specs.Filling.{Filling, filling_none, filling_more, filling_copied}
 use borrow.Author.Rules.{rules}
 use Rattle.cut.proofs.secret.put_bytes.Statement.{statement}
 use Rattle.cut.proofs.secret.put_bytes.Tie as tie
@@ -15,7 +15,7 @@ abbrev decreases-loop : tie.decreases-loop
 decreases-loop secret row₀ i₀ row i = length row₀ - i
 
 loop-holds : tie.Need-loop-init invariant-loop decreases-loop
-loop-holds c = filling-none
+loop-holds c = filling_none
 
 shared-slice-read-wide : tie.Need-shared-slice-read-wide invariant-loop decreases-loop
 shared-slice-read-wide c = search rules
@@ -38,16 +38,16 @@ loop-less c = search rules
 loop-again : tie.Need-loop-preserved invariant-loop decreases-loop
 loop-again c =
     let turn = c.before.before in
-    filling-more turn.before.loop.invariant (search rules) c.wide.ensures
+    filling_more turn.before.loop.invariant (search rules) c.wide.ensures
 
 same_length : tie.Need-same-length invariant-loop decreases-loop
 same_length c = search rules
 
 returns : tie.Need-returns invariant-loop decreases-loop
-returns c = filling-copied c.before.loop.invariant c.before.before.before.before.requires (omega arith)
+returns c = filling_copied c.before.loop.invariant c.before.before.before.before.requires (omega arith)
 
-pub put-bytes-spec : {M : Type 1} → statement M
-put-bytes-spec =
+pub put_bytes_spec : {M : Type 1} → statement M
+put_bytes_spec =
     tie.close
     (tie.spec
     invariant-loop

@@ -21,5 +21,5 @@ same_length c = search rules
 returns : tie.Need-returns
 returns c = rw c.before.before.before.before.order-told.ensures at c.before.before.compare.ensures
 
-pub cs-compare-spec : {M : Type 1} → statement M
-cs-compare-spec = tie.close (tie.spec order-told-requires compare-requires cast-t11 same_length returns)
+pub cs_compare_spec : {M : Type 1} → statement M
+cs_compare_spec = tie.close (tie.spec order-told-requires compare-requires cast-t11 same_length returns)

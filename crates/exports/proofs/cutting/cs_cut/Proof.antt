@@ -16,5 +16,5 @@ same_length c = search rules
 returns : tie.Need-returns
 returns c = rw c.before.before.before.before.as-told.ensures at c.before.before.cut.ensures
 
-pub cs-cut-spec : {M : Type 1} → statement M
-cs-cut-spec = tie.close (tie.spec as-told-requires cut-requires same_length returns)
+pub cs_cut_spec : {M : Type 1} → statement M
+cs_cut_spec = tie.close (tie.spec as-told-requires cut-requires same_length returns)

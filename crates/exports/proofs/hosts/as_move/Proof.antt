@@ -13,5 +13,5 @@ as-told-requires c κs = search rules
 returns : tie.Need-returns
 returns c = rw (c.before.order-told.ensures, c.as-told.ensures)
 
-pub as-move-spec : {M : Type 1} → statement M
-as-move-spec = tie.close (tie.spec order-told-requires as-told-requires returns)
+pub as_move_spec : {M : Type 1} → statement M
+as_move_spec = tie.close (tie.spec order-told-requires as-told-requires returns)

@@ -19,5 +19,5 @@ same_length c = search rules
 returns : tie.Need-returns
 returns c = rw c.before.before.before.before.before.as-told.ensures at c.before.before.before.join.ensures
 
-pub cs-join-spec : {M : Type 1} → statement M
-cs-join-spec = tie.close (tie.spec as-told-requires join-requires cast-t14 same_length returns)
+pub cs_join_spec : {M : Type 1} → statement M
+cs_join_spec = tie.close (tie.spec as-told-requires join-requires cast-t14 same_length returns)

@@ -13,5 +13,5 @@ fetch-number-requires c κs = search rules
 returns : tie.Need-returns
 returns c = rw c.before.as-told.ensures at c.fetch-number.ensures
 
-pub cs-fetch-spec : {M : Type 1} → statement M
-cs-fetch-spec = tie.close (tie.spec as-told-requires fetch-number-requires returns)
+pub cs_fetch_spec : {M : Type 1} → statement M
+cs_fetch_spec = tie.close (tie.spec as-told-requires fetch-number-requires returns)

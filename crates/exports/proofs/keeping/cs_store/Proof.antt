@@ -2,7 +2,7 @@
 -- Assumes nothing.
 use native.Mathlib.Omega.{arith}
 use borrow.Author.Rules.{rules}
-use Rattle.exports.specs.StorePlace.{small-store-place}
+use Rattle.exports.specs.StorePlace.{small_store_place}
 use Rattle.exports.proofs.keeping.cs_store.Statement.{statement}
 use Rattle.exports.proofs.keeping.cs_store.Tie as tie
 
@@ -16,7 +16,7 @@ cast-t13 : tie.Need-overflow-cast-t13
 cast-t13 c =
     let s = c.before.before.before in
     let a = s.before.before.before.before.before.args in
-    omega (arith, s.store.ensures.place, small-store-place s.before.before.as-told.result a.keeper a.held.now a.letter.now)
+    omega (arith, s.store.ensures.place, small_store_place s.before.before.as-told.result a.keeper a.held.now a.letter.now)
 
 same_length : tie.Need-same-length
 same_length c = search rules
@@ -24,5 +24,5 @@ same_length c = search rules
 returns : tie.Need-returns
 returns c = rw c.before.before.before.before.before.as-told.ensures at c.before.before.before.store.ensures
 
-pub cs-store-spec : {M : Type 1} → statement M
-cs-store-spec = tie.close (tie.spec as-told-requires store-requires cast-t13 same_length returns)
+pub cs_store_spec : {M : Type 1} → statement M
+cs_store_spec = tie.close (tie.spec as-told-requires store-requires cast-t13 same_length returns)

@@ -18,5 +18,5 @@ cast-t8 c = omega (arith, picked-length c.before.pick.ensures)
 returns : tie.Need-returns
 returns c = rw c.before.before.as-told.ensures at c.before.pick.ensures
 
-pub cs-pick-spec : {M : Type 1} → statement M
-cs-pick-spec = tie.close (tie.spec as-told-requires pick-requires cast-t8 returns)
+pub cs_pick_spec : {M : Type 1} → statement M
+cs_pick_spec = tie.close (tie.spec as-told-requires pick-requires cast-t8 returns)

@@ -5,7 +5,7 @@ use native.Mathlib.Omega.{arith}
 use borrow.Author.Rules.{rules}
 use Rattle.format.specs.declared.reader.Reading.TheVariants.{Good, Bad}
 use Rattle.format.specs.Reading.{read_of}
-use Rattle.format.specs.ReadingBounds.{good-lawful, small-place}
+use Rattle.format.specs.ReadingBounds.{good_lawful, small_place}
 use Rattle.exports.proofs.reading.cs_read.Statement.{statement}
 use Rattle.exports.proofs.reading.cs_read.Tie as tie
 
@@ -16,7 +16,7 @@ enum-known-h : tie.Need-enum-known-h
 enum-known-h c = search rules
 
 good-requires : tie.Need-good-requires
-good-requires c κs = good-lawful c.before.before.before.before.before.args.slot.now c.before.h.given.0.0 (cc)
+good-requires c κs = good_lawful c.before.before.before.before.before.args.slot.now c.before.h.given.0.0 (cc)
 
 enum-known-number : tie.Need-enum-known-number
 enum-known-number c = search rules
@@ -25,7 +25,7 @@ cast-t7 : tie.Need-overflow-cast-t7
 cast-t7 c =
     let slot = c.before.before.before.before.before.args.slot.now in
     let read : read_of slot ≡ Bad c.before.number.given.0.0 c.before.number.given.0.1.0 = cc in
-    omega (arith, rw read at (small-place slot))
+    omega (arith, rw read at (small_place slot))
 
 returns : tie.Need-returns
 returns c =
@@ -33,13 +33,13 @@ returns c =
     let read : read_of slot ≡ Good c.before.before.h.given.0.0 = cc in
     rw read c.good2.ensures
 
-returns-2 : tie.Need-returns-2
-returns-2 c =
+returns_2 : tie.Need-returns-2
+returns_2 c =
     let slot = c.before.before.before.before.before.args.slot.now in
     let read : read_of slot ≡ Bad c.before.number.given.0.0 c.before.number.given.0.1.0 = cc in
     rw read
 
-pub cs-read-spec : {M : Type 1} → statement M
-cs-read-spec =
+pub cs_read_spec : {M : Type 1} → statement M
+cs_read_spec =
     tie.close
-    (tie.spec read-requires enum-known-h good-requires enum-known-number cast-t7 returns returns-2)
+    (tie.spec read-requires enum-known-h good-requires enum-known-number cast-t7 returns returns_2)

@@ -10,5 +10,5 @@ order-told-requires c κs = search rules
 returns : tie.Need-returns
 returns c = λ i. record { order = c.order-told.ensures i; key = c.before.args.key }
 
-pub as-told-spec : {M : Type 1} → statement M
-as-told-spec = tie.close (tie.spec order-told-requires returns)
+pub as_told_spec : {M : Type 1} → statement M
+as_told_spec = tie.close (tie.spec order-told-requires returns)

@@ -9,8 +9,8 @@ use Rattle.files.proofs.load.front.Tie as tie
 returns : tie.Need-returns
 returns c = prefix_len_of_le _ _ (omega arith)
 
-returns-2 : tie.Need-returns-2
-returns-2 c = prefix_len_of_le _ _ (omega arith)
+returns_2 : tie.Need-returns-2
+returns_2 c = prefix_len_of_le _ _ (omega arith)
 
-pub front-spec : {M : Type 1} → statement M
-front-spec = tie.close (tie.spec returns returns-2)
+pub front_spec : {M : Type 1} → statement M
+front_spec = tie.close (tie.spec returns returns_2)

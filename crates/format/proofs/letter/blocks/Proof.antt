@@ -1,16 +1,16 @@
 -- `format::letter::blocks` meets its contract: it computes what the definition says.
 -- Assumes nothing.
 use borrow.Author.Rules.{rules}
-use Rattle.format.specs.Letter.{blocksFor}
+use Rattle.format.specs.Letter.{blocks_for}
 use Rattle.format.proofs.letter.blocks.Statement.{statement}
 use Rattle.format.proofs.letter.blocks.Tie as tie
 
-add-result : tie.Need-overflow-add-result
-add-result c = search rules
+add_result : tie.Need-overflow-add-result
+add_result c = search rules
 
 returns : tie.Need-returns
-unfolding blocksFor
+unfolding blocks_for
 returns c = search rules
 
-pub blocks-spec : {M : Type 1} → statement M
-blocks-spec = tie.close (tie.spec add-result returns)
+pub blocks_spec : {M : Type 1} → statement M
+blocks_spec = tie.close (tie.spec add_result returns)

@@ -5,7 +5,7 @@ use mathlib.Core.Path.{sym, ◌∙◌}
 use native.Mathlib.Omega.{arith}
 use lib.ListN.{length-take, length-drop}
 use borrow.Author.Rules.{rules}
-use Rattle.header.specs.HeadLaws.{lawful-head-facts}
+use Rattle.header.specs.HeadLaws.{lawful_head_facts}
 use Rattle.format.proofs.Counting.{counted}
 use Rattle.format.proofs.Writing.{WrittenTo, written_none, written_next, written_all}
 use Rattle.format.proofs.letter.write_as.Statement.{statement}
@@ -21,12 +21,12 @@ clear-requires : tie.Need-clear-requires invariant-loop decreases-loop
 clear-requires c κs = search rules
 
 blocks-requires : tie.Need-blocks-requires invariant-loop decreases-loop
-blocks-requires c κs = omega (arith, lawful-head-facts _ c.before.before.before.before.before.before.requires.0)
+blocks-requires c κs = omega (arith, lawful_head_facts _ c.before.before.before.before.before.before.requires.0)
 
 loop-holds : tie.Need-loop-init invariant-loop decreases-loop
 loop-holds c =
     let start = c.before.before.before.before.before.before.before in
-    let facts = lawful-head-facts _ start.requires.0 in
+    let facts = lawful_head_facts _ start.requires.0 in
     written_none _ _ _ _ _ _ (counted _ _ (omega (arith, facts, start.requires.1)) c.blocks2.ensures) _ start.requires.2 c.before.before.before.clear.ensures
 
 mul-start : tie.Need-overflow-mul-start invariant-loop decreases-loop
@@ -80,8 +80,8 @@ same_length c = c.before.loop.invariant.size ∙ sym c.before.before.before.befo
 returns : tie.Need-returns invariant-loop decreases-loop
 returns c = written_all _ _ _ _ _ _ _ c.before.loop.invariant c.loop-test.false c.before.before.before.before.before.before.before.before.before.requires.1
 
-pub write-as-spec : {M : Type 1} → statement M
-write-as-spec =
+pub write_as_spec : {M : Type 1} → statement M
+write_as_spec =
     tie.close
     (tie.spec
     invariant-loop

@@ -4,7 +4,7 @@ use mathlib.Core.Path.{ap, ◌∙◌}
 use borrow.Author.Rules.{rules}
 use Rattle.block.specs.Words.{bytes_of}
 use Rattle.block.specs.Check.{sealed}
-use Rattle.format.proofs.Laying.{block-laid}
+use Rattle.format.proofs.Laying.{block_laid}
 use Rattle.format.proofs.letter.write_block.Statement.{statement}
 use Rattle.format.proofs.letter.write_block.Tie as tie
 
@@ -51,10 +51,10 @@ returns c =
     let header = rw c.before.before.before.before.before.before.before.before.before.before.before.before.before.before.before.before.before.before.before.words.ensures at c.before.before.before.before.before.before.before.before.before.before.before.before.before.before.before.before.put-words.ensures in
     c.before.before.seal.ensures
     ∙ ap (λ ws. bytes_of (sealed ws))
-    (block-laid a.mark a.from a.h a.p a.shares.now a.block.now start.requires.2 start.requires.3 _ _ _ header c.before.before.before.before.before.before.before.before.before.before.before.before.put-words2.ensures c.before.before.before.before.before.before.put-words3.ensures)
+    (block_laid a.mark a.from a.h a.p a.shares.now a.block.now start.requires.2 start.requires.3 _ _ _ header c.before.before.before.before.before.before.before.before.before.before.before.before.put-words2.ensures c.before.before.before.before.before.before.put-words3.ensures)
 
-pub write-block-spec : {M : Type 1} → statement M
-write-block-spec =
+pub write_block_spec : {M : Type 1} → statement M
+write_block_spec =
     tie.close
     (tie.spec
     words-requires

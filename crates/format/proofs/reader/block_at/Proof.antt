@@ -11,8 +11,8 @@ use Rattle.format.proofs.reader.block_at.Tie as tie
 mul-from : tie.Need-overflow-mul-from
 mul-from c = search rules
 
-add-result : tie.Need-overflow-add-result
-add-result c = search rules
+add_result : tie.Need-overflow-add-result
+add_result c = search rules
 
 sub-result : tie.Need-overflow-sub-result
 sub-result c = search rules
@@ -29,6 +29,6 @@ returns c =
     let whole : at + 512 - at ≡ 512 = omega arith in
     (rw whole, rw (whole, length-take, length-drop) (omega arith))
 
-pub block-at-spec : {M : Type 1} → statement M
-block-at-spec =
-    tie.close (tie.spec mul-from add-result sub-result part-result-start part-result-end returns)
+pub block_at_spec : {M : Type 1} → statement M
+block_at_spec =
+    tie.close (tie.spec mul-from add_result sub-result part-result-start part-result-end returns)

@@ -2,7 +2,7 @@
 -- Assumes nothing.
 use mathlib.Core.Path.{◌∙◌}
 use borrow.Author.Rules.{rules}
-use Rattle.format.specs.Reading.{letterBlockNumber}
+use Rattle.format.specs.Reading.{letter_block_number}
 use Rattle.format.proofs.reader.block_number.Statement.{statement}
 use Rattle.format.proofs.reader.block_number.Tie as tie
 
@@ -25,14 +25,14 @@ first-of-requires : tie.Need-first-of-requires
 first-of-requires c κs = search rules
 
 returns : tie.Need-returns
-unfolding letterBlockNumber
+unfolding letter_block_number
 returns c =
     let b = c.before in
     c.first_of.ensures
     ∙ rw (b.unless2.ensures, b.before.before.unless.ensures, b.before.before.before.before.number.ensures, b.before.before.before.mark-right.ensures, b.before.header-right.ensures)
 
-pub block-number-spec : {M : Type 1} → statement M
-block-number-spec =
+pub block_number_spec : {M : Type 1} → statement M
+block_number_spec =
     tie.close
     (tie.spec
     number-requires

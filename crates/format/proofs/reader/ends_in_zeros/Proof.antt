@@ -9,37 +9,37 @@ use lib.Seq.{take_all}
 use borrow.Author.Rules.{rules}
 use Rattle.block.specs.Words.{words_of}
 use Rattle.block.specs.WordParts.{length-words}
-use Rattle.block.specs.Check.{allAtMost}
-use Rattle.format.specs.Letter.{blocksFor}
-use Rattle.format.specs.SlotWords.{shares-past, zeros-past}
-use Rattle.format.specs.Reading.{allShares, endsInZeros}
+use Rattle.block.specs.Check.{all_at_most}
+use Rattle.format.specs.Letter.{blocks_for}
+use Rattle.format.specs.SlotWords.{shares-past, zeros_past}
+use Rattle.format.specs.Reading.{all_shares, ends_in_zeros}
 use Rattle.format.proofs.Counting.{Counted, counted}
 use Rattle.format.proofs.reader.ends_in_zeros.Statement.{statement}
 use Rattle.format.proofs.reader.ends_in_zeros.Tie as tie
 
 module _ (slot : List ℕ) (size : length slot ≡ 2048) where
-  shares-end : (l count : ℕ) → 1 ≤ l → l ≤ 952 → count ≡ blocksFor l
+  shares_end : (l count : ℕ) → 1 ≤ l → l ≤ 952 → count ≡ blocks_for l
       → let end = 256 * (count - 1) + 16 + (l - 238 * (count - 1)) in
-      take (256 * (count - 1) + 254 - end) (drop end (words_of slot)) ≡ drop l (allShares slot (blocksFor l))
-  shares-end l count least most many =
-      let last = blocksFor l - 1 in
+      take (256 * (count - 1) + 254 - end) (drop end (words_of slot)) ≡ drop l (all_shares slot (blocks_for l))
+  shares_end l count least most many =
+      let last = blocks_for l - 1 in
       let same : 256 * last + 254 - (256 * last + 16 + (l - 238 * last)) ≡ 254 - (16 + (l - 238 * last)) = omega arith in
       rw (many, same) (sym (shares-past slot size l least most))
 
-  bytes-end : (l count : ℕ) → count ≤ 4 → count ≡ blocksFor l
-      → allAtMost 0 (take (1024 - 256 * count) (drop (256 * count) (words_of slot))) ≡ allAtMost 0 (drop (512 * blocksFor l) slot)
-  bytes-end l count most many =
+  bytes_end : (l count : ℕ) → count ≤ 4 → count ≡ blocks_for l
+      → all_at_most 0 (take (1024 - 256 * count) (drop (256 * count) (words_of slot))) ≡ all_at_most 0 (drop (512 * blocks_for l) slot)
+  bytes_end l count most many =
       rw (take_all (1024 - 256 * count) (drop (256 * count) (words_of slot)) (rw (length-drop, length-words) (omega arith)), many)
-      (sym (zeros-past slot size (blocksFor l)))
+      (sym (zeros_past slot size (blocks_for l)))
 
 sizes : (c : tie.After-blocks2) → Counted c.before.before.args.l c.blocks2.result
 sizes c = counted c.before.before.args.l c.blocks2.result c.before.before.requires.2 c.blocks2.ensures
 
-shares-zero : (c : tie.After-all-at-most) → let a = c.before.before.before.args in c.all-at-most.result ≡ allAtMost 0 (drop a.l (allShares a.slot.now (blocksFor a.l)))
+shares-zero : (c : tie.After-all-at-most) → let a = c.before.before.before.args in c.all-at-most.result ≡ all_at_most 0 (drop a.l (all_shares a.slot.now (blocks_for a.l)))
 shares-zero c =
     let start = c.before.before.before in
     c.all-at-most.ensures
-    ∙ ap (allAtMost 0) (shares-end start.args.slot.now start.requires.0 start.args.l c.before.blocks2.result start.requires.1 start.requires.2 c.before.blocks2.ensures)
+    ∙ ap (all_at_most 0) (shares_end start.args.slot.now start.requires.0 start.args.l c.before.blocks2.result start.requires.1 start.requires.2 c.before.blocks2.ensures)
 
 blocks-requires : tie.Need-blocks-requires
 blocks-requires c κs = search rules
@@ -78,19 +78,19 @@ all-at-most-requires-2 : tie.Need-all-at-most-requires-2
 all-at-most-requires-2 c κs = omega (arith, sizes c.before.before)
 
 returns : tie.Need-returns
-unfolding endsInZeros
+unfolding ends_in_zeros
 returns c =
     let counted = c.before.before.before in
     let start = counted.before.before in
-    let bytes-zero = c.all-at-most2.ensures ∙ bytes-end start.args.slot.now start.requires.0 start.args.l counted.blocks2.result (omega (arith, sizes counted)) counted.blocks2.ensures in
+    let bytes-zero = c.all-at-most2.ensures ∙ bytes_end start.args.slot.now start.requires.0 start.args.l counted.blocks2.result (omega (arith, sizes counted)) counted.blocks2.ensures in
     rw (← shares-zero c.before.before, ← bytes-zero, c.before.if1.true)
 
-returns-2 : tie.Need-returns-2
-unfolding endsInZeros
-returns-2 c = rw (← shares-zero c.before, c.if1.false)
+returns_2 : tie.Need-returns-2
+unfolding ends_in_zeros
+returns_2 c = rw (← shares-zero c.before, c.if1.false)
 
-pub ends-in-zeros-spec : {M : Type 1} → statement M
-ends-in-zeros-spec =
+pub ends_in_zeros_spec : {M : Type 1} → statement M
+ends_in_zeros_spec =
     tie.close
     (tie.spec
     blocks-requires
@@ -106,4 +106,4 @@ ends-in-zeros-spec =
     mul-all-at-most-2
     all-at-most-requires-2
     returns
-    returns-2)
+    returns_2)

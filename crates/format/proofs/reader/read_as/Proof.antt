@@ -4,22 +4,22 @@ use mathlib.Core.Path.{◌≡◌, sym, ◌∙◌}
 use native.Mathlib.Omega.{arith}
 use borrow.Author.Tests.{eq-eqb, ne_eqb}
 use borrow.Author.Rules.{rules}
-use Rattle.header.specs.Head.{headOf}
+use Rattle.header.specs.Head.{head_of}
 use Rattle.format.specs.LetterBlockLaws.{block_read}
-use Rattle.format.specs.SlotWords.{length-block-words}
-use Rattle.format.specs.Reading.{blockWords, letterBlockNumber, readAs}
-use Rattle.format.proofs.Judging.{good-block, bad-block}
+use Rattle.format.specs.SlotWords.{length-block_words}
+use Rattle.format.specs.Reading.{block_words, letter_block_number, read_as}
+use Rattle.format.proofs.Judging.{good_block, bad_block}
 use Rattle.format.proofs.reader.read_as.Statement.{statement}
 use Rattle.format.proofs.reader.read_as.Tie as tie
 
-said : (c : tie.After-head-of) → c.head_of.result ≡ headOf (blockWords c.before.before.before.before.args.slot.now 0)
+said : (c : tie.After-head-of) → c.head_of.result ≡ head_of (block_words c.before.before.before.before.args.slot.now 0)
 said c = rw c.before.block_at.ensures.0 at c.head_of.ensures
 
-found : (c : tie.After-block-number) → c.block-number.result ≡ letterBlockNumber c.before.before.before.before.before.args.mark c.before.before.before.before.before.args.most c.before.head_of.result 0 (blockWords c.before.before.before.before.before.args.slot.now 0)
+found : (c : tie.After-block-number) → c.block-number.result ≡ letter_block_number c.before.before.before.before.before.args.mark c.before.before.before.before.before.args.most c.before.head_of.result 0 (block_words c.before.before.before.before.before.args.slot.now 0)
 found c = rw c.before.before.block_at.ensures.0 at c.block-number.ensures
 
 returns : tie.Need-returns
-unfolding readAs
+unfolding read_as
 returns c = rw (ne_eqb _ 2048 c.if1.true)
 
 block-at-requires : tie.Need-block-at-requires
@@ -31,33 +31,33 @@ head-of-requires c κs = search rules
 block-number-requires : tie.Need-block-number-requires
 block-number-requires c κs = search rules
 
-returns-2 : tie.Need-returns-2
-unfolding readAs
-returns-2 c =
+returns_2 : tie.Need-returns-2
+unfolding read_as
+returns_2 c =
     rw (eq-eqb _ 2048 c.before.before.before.before.if1.false, ← said c.before.before)
-    (sym (bad-block _ _ _ _ 0 _ (found c.before) (omega arith) c.if2.true))
+    (sym (bad_block _ _ _ _ 0 _ (found c.before) (omega arith) c.if2.true))
 
 read-on-requires : tie.Need-read-on-requires
 read-on-requires c κs =
     let slot = c.before.before.before.before.before.before.args.slot.now in
     let size = c.before.before.before.before.if1.false in
     let good = sym (found c.before) ∙ c.if2.false in
-    (size, (block_read _ c.before.before.head_of.result 0 _ (blockWords slot 0) (length-block-words slot size 0 (omega arith)) good).lawful)
+    (size, (block_read _ c.before.before.head_of.result 0 _ (block_words slot 0) (length-block_words slot size 0 (omega arith)) good).lawful)
 
-returns-3 : tie.Need-returns-3
-unfolding readAs
-returns-3 c =
+returns_3 : tie.Need-returns-3
+unfolding read_as
+returns_3 c =
     rw (eq-eqb _ 2048 c.before.before.before.before.before.if1.false, ← said c.before.before.before)
-    (c.read-on.ensures ∙ sym (good-block _ _ _ _ 0 _ (found c.before.before) (omega arith) c.before.if2.false))
+    (c.read-on.ensures ∙ sym (good_block _ _ _ _ 0 _ (found c.before.before) (omega arith) c.before.if2.false))
 
-pub read-as-spec : {M : Type 1} → statement M
-read-as-spec =
+pub read_as_spec : {M : Type 1} → statement M
+read_as_spec =
     tie.close
     (tie.spec
     returns
     block-at-requires
     head-of-requires
     block-number-requires
-    returns-2
+    returns_2
     read-on-requires
-    returns-3)
+    returns_3)

@@ -5,7 +5,7 @@ use native.Mathlib.Omega.{arith}
 use lib.ListN.{length-take, length-drop}
 use borrow.Author.Rules.{rules}
 use Rattle.format.proofs.Counting.{counted}
-use Rattle.format.proofs.Filling.{FilledTo, filled_none, filled_next, filled-all}
+use Rattle.format.proofs.Filling.{FilledTo, filled_none, filled_next, filled_all}
 use Rattle.format.proofs.reader.take_shares.Statement.{statement}
 use Rattle.format.proofs.reader.take_shares.Tie as tie
 
@@ -61,10 +61,10 @@ same_length : tie.Need-same-length invariant-loop decreases-loop
 same_length c = c.before.loop.invariant.size
 
 returns : tie.Need-returns invariant-loop decreases-loop
-returns c = filled-all _ _ _ _ _ c.before.loop.invariant c.loop-test.false
+returns c = filled_all _ _ _ _ _ c.before.loop.invariant c.loop-test.false
 
-pub take-shares-spec : {M : Type 1} → statement M
-take-shares-spec =
+pub take_shares_spec : {M : Type 1} → statement M
+take_shares_spec =
     tie.close
     (tie.spec
     invariant-loop

@@ -1,7 +1,7 @@
 -- `header::head::lawful` meets its contract: its tests are the definition's, in their order.
 -- Assumes nothing.
 use borrow.Author.Rules.{rules}
-use Rattle.header.specs.Head.{lawfulHead}
+use Rattle.header.specs.Head.{lawful_head}
 use Rattle.header.specs.Chain.{chain}
 use Rattle.header.proofs.head.lawful.Statement.{statement}
 use Rattle.header.proofs.head.lawful.Tie as tie
@@ -19,22 +19,22 @@ lawful-length-requires : tie.Need-lawful-length-requires
 lawful-length-requires c κs = search rules
 
 returns : tie.Need-returns
-unfolding lawfulHead
+unfolding lawful_head
 returns c = search chain
 
-returns-2 : tie.Need-returns-2
-unfolding lawfulHead
-returns-2 c = search chain
+returns_2 : tie.Need-returns-2
+unfolding lawful_head
+returns_2 c = search chain
 
-returns-3 : tie.Need-returns-3
-unfolding lawfulHead
-returns-3 c = search chain
+returns_3 : tie.Need-returns-3
+unfolding lawful_head
+returns_3 c = search chain
 
-returns-4 : tie.Need-returns-4
-unfolding lawfulHead
-returns-4 c = search chain
+returns_4 : tie.Need-returns-4
+unfolding lawful_head
+returns_4 c = search chain
 
-pub lawful-spec : {M : Type 1} → statement M
-lawful-spec =
+pub lawful_spec : {M : Type 1} → statement M
+lawful_spec =
     tie.close
-    (tie.spec lawful-requires has-keeper-requires lawful-stamp-requires lawful-length-requires returns returns-2 returns-3 returns-4)
+    (tie.spec lawful-requires has-keeper-requires lawful-stamp-requires lawful-length-requires returns returns_2 returns_3 returns_4)

@@ -16,5 +16,5 @@ wide-requires-3 c κs = search rules
 returns : tie.Need-returns
 returns c = λ i. record { t = c.before.before.wide.ensures i; f = c.before.wide2.ensures i; n = c.wide3.ensures i }
 
-pub order-of-spec : {M : Type 1} → statement M
-order-of-spec = tie.close (tie.spec wide-requires wide-requires-2 wide-requires-3 returns)
+pub order_of_spec : {M : Type 1} → statement M
+order_of_spec = tie.close (tie.spec wide-requires wide-requires-2 wide-requires-3 returns)

@@ -13,5 +13,5 @@ wide-requires c κs = search rules
 returns : tie.Need-returns
 returns c = λ i. record { order = c.before.order-of.ensures i; key = c.wide.ensures i }
 
-pub told-of-spec : {M : Type 1} → statement M
-told-of-spec = tie.close (tie.spec order-of-requires wide-requires returns)
+pub told_of_spec : {M : Type 1} → statement M
+told_of_spec = tie.close (tie.spec order-of-requires wide-requires returns)

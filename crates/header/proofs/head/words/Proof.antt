@@ -3,22 +3,22 @@
 use borrow.Author.Rules.{rules}
 use native.Mathlib.Nat.{div-one}
 use native.Mathlib.Omega.{arith}
-use Rattle.header.specs.Head.{headWords}
-use Rattle.header.specs.HeadLaws.{lawful-head-facts}
+use Rattle.header.specs.Head.{head_words}
+use Rattle.header.specs.HeadLaws.{lawful_head_facts}
 use Rattle.header.proofs.head.words.Statement.{statement}
 use Rattle.header.proofs.head.words.Tie as tie
 
 cast-t9 : tie.Need-overflow-cast-t9
-cast-t9 c = omega (arith, lawful-head-facts _ c.before.before.before.requires.0)
+cast-t9 c = omega (arith, lawful_head_facts _ c.before.before.before.requires.0)
 
 cast-t10 : tie.Need-overflow-cast-t10
-cast-t10 c = omega (arith, lawful-head-facts _ c.before.before.before.before.requires.0)
+cast-t10 c = omega (arith, lawful_head_facts _ c.before.before.before.before.requires.0)
 
 cast-t11 : tie.Need-overflow-cast-t11
-cast-t11 c = omega (arith, lawful-head-facts _ c.before.before.before.before.before.requires.0)
+cast-t11 c = omega (arith, lawful_head_facts _ c.before.before.before.before.before.requires.0)
 
 cast-t12 : tie.Need-overflow-cast-t12
-cast-t12 c = omega (arith, lawful-head-facts _ c.before.before.before.before.before.before.requires.0)
+cast-t12 c = omega (arith, lawful_head_facts _ c.before.before.before.before.before.before.requires.0)
 
 cast-t15 : tie.Need-overflow-cast-t15
 cast-t15 c = search rules
@@ -42,14 +42,14 @@ cast-t29 : tie.Need-overflow-cast-t29
 cast-t29 c = search rules
 
 cast-t30 : tie.Need-overflow-cast-t30
-cast-t30 c = omega (arith, lawful-head-facts _ c.before.before.before.before.before.before.before.requires.0)
+cast-t30 c = omega (arith, lawful_head_facts _ c.before.before.before.before.before.before.before.requires.0)
 
 returns : tie.Need-returns
-unfolding headWords
+unfolding head_words
 returns c = simp div-one
 
-pub words-spec : {M : Type 1} → statement M
-words-spec =
+pub words_spec : {M : Type 1} → statement M
+words_spec =
     tie.close
     (tie.spec
     cast-t9

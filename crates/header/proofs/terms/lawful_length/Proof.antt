@@ -7,8 +7,8 @@ use Rattle.header.proofs.terms.lawful_length.Tie as tie
 returns : tie.Need-returns
 returns c = search chain
 
-returns-2 : tie.Need-returns-2
-returns-2 c = search chain
+returns_2 : tie.Need-returns-2
+returns_2 c = search chain
 
-pub lawful-length-spec : {M : Type 1} → statement M
-lawful-length-spec = tie.close (tie.spec returns returns-2)
+pub lawful_length_spec : {M : Type 1} → statement M
+lawful_length_spec = tie.close (tie.spec returns returns_2)

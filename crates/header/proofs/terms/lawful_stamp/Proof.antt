@@ -9,5 +9,5 @@ use Rattle.header.proofs.terms.lawful_stamp.Tie as tie
 returns : tie.Need-returns
 returns c = rw (le-leb c.args.stamp 4294967295 (omega arith), and-true)
 
-pub lawful-stamp-spec : {M : Type 1} → statement M
-lawful-stamp-spec = tie.close (tie.spec returns)
+pub lawful_stamp_spec : {M : Type 1} → statement M
+lawful_stamp_spec = tie.close (tie.spec returns)

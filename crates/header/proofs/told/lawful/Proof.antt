@@ -1,7 +1,7 @@
 -- `header::told::lawful` meets its contract: its tests are the definition's, in their order.
 -- Assumes nothing.
 use borrow.Author.Rules.{rules}
-use Rattle.header.specs.Told.{lawfulTold}
+use Rattle.header.specs.Told.{lawful_told}
 use Rattle.header.specs.Chain.{chain}
 use Rattle.header.proofs.told.lawful.Statement.{statement}
 use Rattle.header.proofs.told.lawful.Tie as tie
@@ -10,12 +10,12 @@ lawful-requires : tie.Need-lawful-requires
 lawful-requires c κs = search rules
 
 returns : tie.Need-returns
-unfolding lawfulTold
+unfolding lawful_told
 returns c = search chain
 
-returns-2 : tie.Need-returns-2
-unfolding lawfulTold
-returns-2 c = search chain
+returns_2 : tie.Need-returns-2
+unfolding lawful_told
+returns_2 c = search chain
 
-pub lawful-spec : {M : Type 1} → statement M
-lawful-spec = tie.close (tie.spec lawful-requires returns returns-2)
+pub lawful_spec : {M : Type 1} → statement M
+lawful_spec = tie.close (tie.spec lawful-requires returns returns_2)

@@ -8,7 +8,7 @@ use native.Mathlib.Omega.{arith}
 use lib.ListN.{length, get_or, set, take, length-set}
 use lib.Seq.{take_all, take-suc, take-suc-set}
 use borrow.Author.Rules.{rules}
-use Rattle.block.specs.AtMostLaws.{at-most-below}
+use Rattle.block.specs.AtMostLaws.{at_most_below}
 use Rattle.join.proofs.bytes.put_bytes.Statement.{statement}
 use Rattle.join.proofs.bytes.put_bytes.Tie as tie
 
@@ -30,7 +30,7 @@ shared-slice-read-byte c = search rules
 cast-byte : tie.Need-overflow-cast-byte invariant-loop decreases-loop
 cast-byte c =
     let a = c.before.before.before in
-    omega (arith, at-most-below 255 a.args.words.now a.requires.0 c.before.before.loop.i (search rules))
+    omega (arith, at_most_below 255 a.args.words.now a.requires.0 c.before.before.loop.i (search rules))
 
 slice-write-room : tie.Need-slice-write-room invariant-loop decreases-loop
 slice-write-room c = search rules
@@ -58,8 +58,8 @@ returns c =
     let words = c.before.before.args.words.now in
     sym (take_all here.i here.room (search rules)) ∙ here.invariant.2 ∙ take_all here.i words (search rules)
 
-pub put-bytes-spec : {M : Type 1} → statement M
-put-bytes-spec =
+pub put_bytes_spec : {M : Type 1} → statement M
+put_bytes_spec =
     tie.close
     (tie.spec
     invariant-loop

@@ -11,8 +11,8 @@ mul-if1 c = search rules
 returns : tie.Need-returns
 returns c = rw (eq-eqb _ _ c.if1.true)
 
-returns-2 : tie.Need-returns-2
-returns-2 c = rw (ne_eqb _ _ c.if1.false)
+returns_2 : tie.Need-returns-2
+returns_2 c = rw (ne_eqb _ _ c.if1.false)
 
-pub lent-right-spec : {M : Type 1} → statement M
-lent-right-spec = tie.close (tie.spec mul-if1 returns returns-2)
+pub lent_right_spec : {M : Type 1} → statement M
+lent_right_spec = tie.close (tie.spec mul-if1 returns returns_2)

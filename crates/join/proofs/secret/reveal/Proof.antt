@@ -2,7 +2,7 @@
 -- Assumes nothing.
 use mathlib.Core.Path.{sym, ◌∙◌}
 use borrow.Author.Rules.{rules}
-use Rattle.join.specs.Revealed.{reveals-bytes, reveals-wide}
+use Rattle.join.specs.Revealed.{reveals_bytes, reveals_wide}
 use Rattle.join.proofs.secret.reveal.Statement.{statement}
 use Rattle.join.proofs.secret.reveal.Tie as tie
 
@@ -21,8 +21,8 @@ put-bytes-requires c κs =
 same_length : tie.Need-same-length
 same_length c = search rules
 
-same-length-2 : tie.Need-same-length-2
-same-length-2 c = search rules
+same_length_2 : tie.Need-same-length-2
+same_length_2 c = search rules
 
 returns : tie.Need-returns
 returns c =
@@ -30,28 +30,28 @@ returns c =
     let bytes = put.before.before.before in
     let row = bytes.before.before.before.before.before in
     let start = row.before.before.before.before.before in
-    reveals-bytes row.constants-of.new.1.1.1.0 start.args.room.now (rw start.requires.1.1.1.1 at row.constants-of.ensures)
+    reveals_bytes row.constants-of.new.1.1.1.0 start.args.room.now (rw start.requires.1.1.1.1 at row.constants-of.ensures)
     (sym bytes.before.within.ensures ∙ bytes.if1.true) _ put.put-bytes.ensures
 
 same-length-3 : tie.Need-same-length-3
 same-length-3 c = search rules
 
-returns-2 : tie.Need-returns-2
-returns-2 c =
+returns_2 : tie.Need-returns-2
+returns_2 c =
     let row = c.before.before.before.before.before in
     let start = row.before.before.before.before.before in
-    reveals-wide row.constants-of.new.1.1.1.0 start.args.room.now (rw start.requires.1.1.1.1 at row.constants-of.ensures)
+    reveals_wide row.constants-of.new.1.1.1.0 start.args.room.now (rw start.requires.1.1.1.1 at row.constants-of.ensures)
     (sym c.before.within.ensures ∙ c.if1.false)
 
-pub reveal-spec : {M : Type 1} → statement M
-reveal-spec =
+pub reveal_spec : {M : Type 1} → statement M
+reveal_spec =
     tie.close
     (tie.spec
     constants-of-requires
     within-requires
     put-bytes-requires
     same_length
-    same-length-2
+    same_length_2
     returns
     same-length-3
-    returns-2)
+    returns_2)

@@ -11,17 +11,17 @@ use Rattle.joins.proofs.found.is_joinable.Tie as tie
 returns : tie.Need-returns
 returns c = λ e. absurd (true≢false (sym e))
 
-returns-2 : tie.Need-returns-2
-returns-2 c = λ e. absurd (true≢false (sym e))
+returns_2 : tie.Need-returns-2
+returns_2 c = λ e. absurd (true≢false (sym e))
 
-returns-3 : tie.Need-returns-3
-returns-3 c = λ e. absurd (true≢false (sym e))
+returns_3 : tie.Need-returns-3
+returns_3 c = λ e. absurd (true≢false (sym e))
 
 mul-result : tie.Need-overflow-mul-result
 mul-result c = search rules
 
-returns-4 : tie.Need-returns-4
-returns-4 c = λ e. record { few = omega arith; small = omega arith; short = omega arith; slots = eqb-true _ _ e }
+returns_4 : tie.Need-returns-4
+returns_4 c = λ e. record { few = omega arith; small = omega arith; short = omega arith; slots = eqb-true _ _ e }
 
-pub is-joinable-spec : {M : Type 1} → statement M
-is-joinable-spec = tie.close (tie.spec returns returns-2 returns-3 mul-result returns-4)
+pub is_joinable_spec : {M : Type 1} → statement M
+is_joinable_spec = tie.close (tie.spec returns returns_2 returns_3 mul-result returns_4)

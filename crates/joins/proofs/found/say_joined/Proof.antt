@@ -19,11 +19,11 @@ returns c = search rules
 say-answer-requires : tie.Need-say-answer-requires
 say-answer-requires c κs = search rules
 
-returns-2 : tie.Need-returns-2
-returns-2 c = search rules
+returns_2 : tie.Need-returns-2
+returns_2 c = search rules
 
-pub say-joined-spec : {M : Type 1} → statement M
-say-joined-spec =
+pub say_joined_spec : {M : Type 1} → statement M
+say_joined_spec =
     tie.close
     (tie.spec
     has-group-requires
@@ -31,4 +31,4 @@ say-joined-spec =
     say-lines-requires
     returns
     say-answer-requires
-    returns-2)
+    returns_2)

@@ -21,8 +21,8 @@ join-in-requires c κs = search rules
 returns : tie.Need-returns
 returns c = search rules
 
-pub join-group-spec : {M : Type 1} → statement M
-join-group-spec =
+pub join_group_spec : {M : Type 1} → statement M
+join_group_spec =
     tie.close
     (tie.spec
     room-for-requires

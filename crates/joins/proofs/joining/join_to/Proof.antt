@@ -8,8 +8,8 @@ use borrow.Author.Rules.{rules}
 use Rattle.joins.proofs.joining.join_to.Statement.{statement}
 use Rattle.joins.proofs.joining.join_to.Tie as tie
 
-has-requires : tie.Need-has-requires
-has-requires c κs = search rules
+has_requires : tie.Need-has-requires
+has_requires c κs = search rules
 
 is-writable-requires : tie.Need-is-writable-requires
 is-writable-requires c κs = search rules
@@ -35,14 +35,14 @@ slice-aggregate-load-and-join c = length_front (2048 * c.before.slots-of.result)
 load-and-join-requires : tie.Need-load-and-join-requires
 load-and-join-requires c κs = sym (length_front (2048 * c.before.slots-of.result) 32768 (omega arith))
 
-returns-2 : tie.Need-returns-2
-returns-2 c = search rules
+returns_2 : tie.Need-returns-2
+returns_2 c = search rules
 
-pub join-to-spec : {M : Type 1} → statement M
-join-to-spec =
+pub join_to_spec : {M : Type 1} → statement M
+join_to_spec =
     tie.close
     (tie.spec
-    has-requires
+    has_requires
     is-writable-requires
     returns
     slots-of-requires
@@ -51,4 +51,4 @@ join-to-spec =
     array-borrow-prefix-tray
     slice-aggregate-load-and-join
     load-and-join-requires
-    returns-2)
+    returns_2)

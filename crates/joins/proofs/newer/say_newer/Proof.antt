@@ -62,11 +62,11 @@ loop-less-2 c = search rules
 loop-again-2 : tie.Need-loop-preserved-2 invariant-loop decreases-loop
 loop-again-2 c = search rules
 
-returns-2 : tie.Need-returns-2 invariant-loop decreases-loop
-returns-2 c = search rules
+returns_2 : tie.Need-returns-2 invariant-loop decreases-loop
+returns_2 c = search rules
 
-pub say-newer-spec : {M : Type 1} → statement M
-say-newer-spec =
+pub say_newer_spec : {M : Type 1} → statement M
+say_newer_spec =
     tie.close
     (tie.spec
     invariant-loop
@@ -88,4 +88,4 @@ say-newer-spec =
     loop-again
     loop-less-2
     loop-again-2
-    returns-2)
+    returns_2)

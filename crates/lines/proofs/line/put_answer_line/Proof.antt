@@ -3,9 +3,9 @@
 use native.Mathlib.Omega.{arith}
 use borrow.Author.Rules.{rules}
 use Rattle.lists.specs.Listed.{listed}
-use Rattle.lines.specs.Lines.{answerLine}
+use Rattle.lines.specs.Lines.{answer_line}
 use Rattle.lines.specs.Text.{text}
-use Rattle.lines.specs.Written.{written-more}
+use Rattle.lines.specs.Written.{written_more}
 use Rattle.lines.proofs.line.put_answer_line.Statement.{statement}
 use Rattle.lines.proofs.line.put_answer_line.Tie as tie
 
@@ -25,14 +25,14 @@ same_length : tie.Need-same-length
 same_length c = search rules
 
 returns : tie.Need-returns
-unfolding answerLine text listed
+unfolding answer_line text listed
 returns c =
     let end = c.before.before in
     let number = end.before.before.before.before.before in
-    written-more (omega arith) number.put-named.ensures.0 end.put.ensures
+    written_more (omega arith) number.put-named.ensures.0 end.put.ensures
 
-pub put-answer-line-spec : {M : Type 1} → statement M
-put-answer-line-spec =
+pub put_answer_line_spec : {M : Type 1} → statement M
+put_answer_line_spec =
     tie.close
     (tie.spec
     slice-aggregate-put-named

@@ -2,7 +2,7 @@
 -- Assumes nothing.
 use borrow.Author.Rules.{rules}
 use Rattle.lists.specs.Listed.{listed}
-use Rattle.lines.specs.Lines.{threeLine}
+use Rattle.lines.specs.Lines.{three_line}
 use Rattle.lines.specs.Text.{text}
 use Rattle.lines.proofs.line.put_count_line.Statement.{statement}
 use Rattle.lines.proofs.line.put_count_line.Tie as tie
@@ -23,11 +23,11 @@ same_length : tie.Need-same-length
 same_length c = search rules
 
 returns : tie.Need-returns
-unfolding threeLine text listed
+unfolding three_line text listed
 returns c = c.before.before.put_three.ensures
 
-pub put-count-line-spec : {M : Type 1} → statement M
-put-count-line-spec =
+pub put_count_line_spec : {M : Type 1} → statement M
+put_count_line_spec =
     tie.close
     (tie.spec
     slice-aggregate-put-three

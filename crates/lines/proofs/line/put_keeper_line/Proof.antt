@@ -3,9 +3,9 @@
 use native.Mathlib.Omega.{arith}
 use borrow.Author.Rules.{rules}
 use Rattle.lists.specs.Listed.{listed}
-use Rattle.lines.specs.Lines.{keeperLine}
+use Rattle.lines.specs.Lines.{keeper_line}
 use Rattle.lines.specs.Text.{text}
-use Rattle.lines.specs.Written.{written-more}
+use Rattle.lines.specs.Written.{written_more}
 use Rattle.lines.proofs.line.put_keeper_line.Statement.{statement}
 use Rattle.lines.proofs.line.put_keeper_line.Tie as tie
 
@@ -34,18 +34,18 @@ same_length : tie.Need-same-length
 same_length c = search rules
 
 returns : tie.Need-returns
-unfolding keeperLine text listed
+unfolding keeper_line text listed
 returns c =
     let end = c.before.before in
     let word = end.before.before.before.before.before in
     let space = word.before.before.before.before in
     let keeper = space.before.before.before.before.before in
-    written-more (omega arith) keeper.put-named.ensures.0
-    (written-more (omega arith) space.put.ensures
-    (written-more (omega arith) word.put_word.ensures.0 end.put2.ensures))
+    written_more (omega arith) keeper.put-named.ensures.0
+    (written_more (omega arith) space.put.ensures
+    (written_more (omega arith) word.put_word.ensures.0 end.put2.ensures))
 
-pub put-keeper-line-spec : {M : Type 1} → statement M
-put-keeper-line-spec =
+pub put_keeper_line_spec : {M : Type 1} → statement M
+put_keeper_line_spec =
     tie.close
     (tie.spec
     slice-aggregate-put-named

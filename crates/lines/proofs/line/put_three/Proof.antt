@@ -4,7 +4,7 @@ use native.Mathlib.Omega.{arith}
 use borrow.Author.Rules.{rules}
 use Rattle.lists.specs.Listed.{listed}
 use Rattle.lines.specs.Text.{text}
-use Rattle.lines.specs.Written.{written-more}
+use Rattle.lines.specs.Written.{written_more}
 use Rattle.lines.proofs.line.put_three.Statement.{statement}
 use Rattle.lines.proofs.line.put_three.Tie as tie
 
@@ -33,12 +33,12 @@ returns c =
     let three = end.before.before.before.before.before in
     let two = three.before.before.before.before in
     let one = two.before.before.before.before in
-    written-more (omega arith) one.put-named.ensures.0
-    (written-more (omega arith) two.put-named2.ensures.0
-    (written-more (omega arith) three.put-named3.ensures.0 end.put.ensures))
+    written_more (omega arith) one.put-named.ensures.0
+    (written_more (omega arith) two.put-named2.ensures.0
+    (written_more (omega arith) three.put-named3.ensures.0 end.put.ensures))
 
-pub put-three-spec : {M : Type 1} → statement M
-put-three-spec =
+pub put_three_spec : {M : Type 1} → statement M
+put_three_spec =
     tie.close
     (tie.spec
     put-named-requires

@@ -53,35 +53,35 @@ returns c =
     let done = c.before.before in
     rw done.before.before.before.enum_told.given.1 (done.put.ensures, omega arith)
 
-same-length-2 : tie.Need-same-length-2
-same-length-2 c = search rules
+same_length_2 : tie.Need-same-length-2
+same_length_2 c = search rules
 
-returns-2 : tie.Need-returns-2
+returns_2 : tie.Need-returns-2
 unfolding word_of text listed
-returns-2 c =
+returns_2 c =
     let done = c.before.before in
     rw done.before.before.before.enum-told2.given.1 (done.put2.ensures, omega arith)
 
 same-length-3 : tie.Need-same-length-3
 same-length-3 c = search rules
 
-returns-3 : tie.Need-returns-3
+returns_3 : tie.Need-returns-3
 unfolding word_of text listed
-returns-3 c =
+returns_3 c =
     let done = c.before.before in
     rw done.before.before.before.enum-told3.given.1 (done.put3.ensures, omega arith)
 
 same-length-4 : tie.Need-same-length-4
 same-length-4 c = search rules
 
-returns-4 : tie.Need-returns-4
+returns_4 : tie.Need-returns-4
 unfolding word_of text listed
-returns-4 c =
+returns_4 c =
     let done = c.before.before in
     rw done.before.before.before.enum-told4.given.1 (done.put4.ensures, omega arith)
 
-pub put-word-spec : {M : Type 1} → statement M
-put-word-spec =
+pub put_word_spec : {M : Type 1} → statement M
+put_word_spec =
     tie.close
     (tie.spec
     enum_told
@@ -98,9 +98,9 @@ put-word-spec =
     put-requires-4
     same_length
     returns
-    same-length-2
-    returns-2
+    same_length_2
+    returns_2
     same-length-3
-    returns-3
+    returns_3
     same-length-4
-    returns-4)
+    returns_4)

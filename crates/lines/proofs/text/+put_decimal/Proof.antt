@@ -7,10 +7,10 @@ use lib.ListN.{length}
 use borrow.Author.Rules.{rules}
 use borrow.Fn.Kinds.{In}
 use borrow.Fn.PlainCycle.{Measures}
-use Rattle.lists.specs.Recursion.{givenAt, askedBelow}
-use Rattle.lines.specs.DecimalLaws.{decimal-one, decimal-more, length-decimal}
+use Rattle.lists.specs.Recursion.{given_at, asked_below}
+use Rattle.lines.specs.DecimalLaws.{decimal_one, decimal_more, length-decimal}
 use Rattle.lines.specs.Text.{decimal}
-use Rattle.lines.specs.Written.{written_none, written-store}
+use Rattle.lines.specs.Written.{written_none, written_store}
 use Rattle.lines.proofs.text.put_decimal.Reads as reads
 use Rattle.lines.proofs.text.put_decimal.Kinds as kinds
 use Rattle.lines.proofs.text.+put_decimal.Lts-put_decimal as lts
@@ -23,35 +23,35 @@ abbrev μ-put-decimal : Measures 1 kinds.ps ℕ
 
 module _ (t : ℕ) where
   abbrev given : In 1 kinds.ps
-  given = givenAt 1 kinds.ps μ-put-decimal reads.Pre t
+  given = given_at 1 kinds.ps μ-put-decimal reads.Pre t
 
   abbrev calls : lts.Claims
-  calls = (digit-reads.Asked, digit-reads.Learnt, askedBelow 1 kinds.ps μ-put-decimal reads.Pre t, reads.Post)
+  calls = (digit-reads.Asked, digit-reads.Learnt, asked_below 1 kinds.ps μ-put-decimal reads.Pre t, reads.Post)
 
-  digit-requires : lts.Need-digit-requires calls given reads.Post
-  digit-requires c κs = search rules
+  digit_requires : lts.Need-digit-requires calls given reads.Post
+  digit_requires c κs = search rules
 
-  slice-write-out : lts.Need-slice-write-out calls given reads.Post
-  slice-write-out c = search rules
+  slice_write_out : lts.Need-slice-write-out calls given reads.Post
+  slice_write_out c = search rules
 
-  add-result : lts.Need-overflow-add-result calls given reads.Post
-  add-result c = search rules
+  add_result : lts.Need-overflow-add-result calls given reads.Post
+  add_result c = search rules
 
-  put-decimal-requires : lts.Need-put-decimal-requires calls given reads.Post
-  put-decimal-requires c κs = search rules
+  put_decimal_requires : lts.Need-put-decimal-requires calls given reads.Post
+  put_decimal_requires c κs = search rules
 
-  digit-requires-2 : lts.Need-digit-requires-2 calls given reads.Post
-  digit-requires-2 c κs = search rules
+  digit_requires_2 : lts.Need-digit-requires-2 calls given reads.Post
+  digit_requires_2 c κs = search rules
 
   -- a tenth of a number below 2^32 leaves room for one digit more
   room : (c : lts.After-digit2 calls given reads.Post) → length (decimal (c.before.before.before.before.before.before.before.args.n / 10)) ≤ 9
   room c = length-decimal 8 (c.before.before.before.before.before.before.before.args.n / 10) (omega arith)
 
-  slice-write-out-2 : lts.Need-slice-write-out-2 calls given reads.Post
-  slice-write-out-2 c = omega (arith, room c)
+  slice_write_out_2 : lts.Need-slice-write-out-2 calls given reads.Post
+  slice_write_out_2 c = omega (arith, room c)
 
-  add-result-2 : lts.Need-overflow-add-result-2 calls given reads.Post
-  add-result-2 c = omega (arith, room c)
+  add_result_2 : lts.Need-overflow-add-result-2 calls given reads.Post
+  add_result_2 c = omega (arith, room c)
 
   same_length : lts.Need-same-length calls given reads.Post
   same_length c = search rules
@@ -59,17 +59,17 @@ module _ (t : ℕ) where
   returns : lts.Need-returns calls given reads.Post
   returns c =
       let args = c.before.before.before.args in
-      rw (c.digit.ensures, decimal-one args.n (omega arith))
-      (written-store (48 + args.n) (omega arith) (written_none args.out.now args.at))
+      rw (c.digit.ensures, decimal_one args.n (omega arith))
+      (written_store (48 + args.n) (omega arith) (written_none args.out.now args.at))
 
-  same-length-2 : lts.Need-same-length-2 calls given reads.Post
-  same-length-2 c = search rules
+  same_length_2 : lts.Need-same-length-2 calls given reads.Post
+  same_length_2 c = search rules
 
-  returns-2 : lts.Need-returns-2 calls given reads.Post
-  returns-2 c =
+  returns_2 : lts.Need-returns-2 calls given reads.Post
+  returns_2 c =
       let n = c.before.before.before.before.before.before.before.args.n in
-      rw (c.digit2.ensures, decimal-more n (omega arith) (omega arith))
-      (written-store (48 + n % 10) (omega (arith, room c)) c.before.before.before.put-decimal.ensures)
+      rw (c.digit2.ensures, decimal_more n (omega arith) (omega arith))
+      (written_store (48 + n % 10) (omega (arith, room c)) c.before.before.before.put-decimal.ensures)
 
   spec : {M : Type 1} → lts.Closed calls given reads.Post M
   spec =
@@ -77,17 +77,17 @@ module _ (t : ℕ) where
       calls
       given
       reads.Post
-      digit-requires
-      slice-write-out
-      add-result
-      put-decimal-requires
-      digit-requires-2
-      slice-write-out-2
-      add-result-2
+      digit_requires
+      slice_write_out
+      add_result
+      put_decimal_requires
+      digit_requires_2
+      slice_write_out_2
+      add_result_2
       same_length
       returns
-      same-length-2
-      returns-2
+      same_length_2
+      returns_2
 
 pub +put-decimal-spec : {M : Type 1} → statement M
 +put-decimal-spec = close μ-put-decimal (λ t. spec t)

@@ -8,7 +8,7 @@ use native.Mathlib.Omega.{arith}
 use lib.ListN.{length, take, get_or, length-set}
 use lib.Seq.{take-suc, take_all}
 use borrow.Author.Rules.{rules}
-use Rattle.lines.specs.Written.{Written, written_none, written-store}
+use Rattle.lines.specs.Written.{Written, written_none, written_store}
 use Rattle.lines.proofs.text.put.Statement.{statement}
 use Rattle.lines.proofs.text.put.Tie as tie
 
@@ -30,8 +30,8 @@ shared-slice-read-out c = search rules
 add-out : tie.Need-overflow-add-out invariant-loop decreases-loop
 add-out c = search rules
 
-slice-write-out : tie.Need-slice-write-out invariant-loop decreases-loop
-slice-write-out c = search rules
+slice_write_out : tie.Need-slice-write-out invariant-loop decreases-loop
+slice_write_out c = search rules
 
 add-i : tie.Need-overflow-add-i invariant-loop decreases-loop
 add-i c = search rules
@@ -43,11 +43,11 @@ loop-again : tie.Need-loop-preserved invariant-loop decreases-loop
 loop-again c =
     let here = c.before.before.loop in
     let bytes = c.before.before.before.args.bytes.now in
-    let next = written-store (get_or bytes here.i 0) (omega arith) here.invariant.2 in
+    let next = written_store (get_or bytes here.i 0) (omega arith) here.invariant.2 in
     (omega arith, simp length-set here.invariant.1, rw (add-one, take-suc bytes here.i 0 (omega arith), add-suc) (rw add-one at next))
 
-add-result : tie.Need-overflow-add-result invariant-loop decreases-loop
-add-result c = search rules
+add_result : tie.Need-overflow-add-result invariant-loop decreases-loop
+add_result c = search rules
 
 same_length : tie.Need-same-length invariant-loop decreases-loop
 same_length c = search rules
@@ -66,10 +66,10 @@ put_spec =
     loop-holds
     shared-slice-read-out
     add-out
-    slice-write-out
+    slice_write_out
     add-i
     loop-less
     loop-again
-    add-result
+    add_result
     same_length
     returns)

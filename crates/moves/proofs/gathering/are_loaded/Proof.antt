@@ -44,14 +44,14 @@ loop-less c = omega arith
 loop-again : tie.Need-loop-preserved invariant-loop decreases-loop
 loop-again c = search rules
 
-same-length-2 : tie.Need-same-length-2 invariant-loop decreases-loop
-same-length-2 c = search rules
+same_length_2 : tie.Need-same-length-2 invariant-loop decreases-loop
+same_length_2 c = search rules
 
-returns-2 : tie.Need-returns-2 invariant-loop decreases-loop
-returns-2 c = search rules
+returns_2 : tie.Need-returns-2 invariant-loop decreases-loop
+returns_2 c = search rules
 
-pub are-loaded-spec : {M : Type 1} → statement M
-are-loaded-spec =
+pub are_loaded_spec : {M : Type 1} → statement M
+are_loaded_spec =
     tie.close
     (tie.spec
     invariant-loop
@@ -66,5 +66,5 @@ are-loaded-spec =
     add-k
     loop-less
     loop-again
-    same-length-2
-    returns-2)
+    same_length_2
+    returns_2)

@@ -23,8 +23,8 @@ load-and-weigh-requires c κs = sym (length_front _ 16384 (omega arith))
 returns : tie.Need-returns
 returns c = search rules
 
-pub weigh-listed-spec : {M : Type 1} → statement M
-weigh-listed-spec =
+pub weigh_listed_spec : {M : Type 1} → statement M
+weigh_listed_spec =
     tie.close
     (tie.spec
     mul-size

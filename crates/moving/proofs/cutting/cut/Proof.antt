@@ -5,8 +5,8 @@ use mathlib.Core.Path.{◌≡◌, sym, ◌∙◌}
 use native.Mathlib.Omega.{arith}
 use lib.Seq.{length-take-le}
 use borrow.Author.Rules.{rules}
-use Rattle.moving.specs.Cutting.{cutRefusal, moveCutNumber}
-use Rattle.moving.specs.CuttingLaws.{LentRight, refusal-right, rows_few, done_refused, judged-number, done-filled, done-judged}
+use Rattle.moving.specs.Cutting.{cut_refusal, move_cut_number}
+use Rattle.moving.specs.CuttingLaws.{LentRight, refusal_right, rows_few, done_refused, judged_number, done_filled, done_judged}
 use Rattle.moving.proofs.cutting.cut.Statement.{statement}
 use Rattle.moving.proofs.cutting.cut.Tie as tie
 
@@ -15,18 +15,18 @@ start c = c.before.before.before.before.before
 
 -- nothing is wrong with what is told and lent
 lent : (c : tie.Else1) → let a = (start c.before).args in LentRight a.m a.keeper a.letter.now a.random.now a.tray.now
-lent c = refusal-right _ _ _ _ _ (sym c.before.refusal.ensures ∙ c.if1.false)
+lent c = refusal_right _ _ _ _ _ (sym c.before.refusal.ensures ∙ c.if1.false)
 
 abbrev else : tie.Then2 → tie.Else1
 else c = c.before.before.before
 
 accepted : (c : tie.Then2)
-    → let a = (start (else c).before).args in moveCutNumber a.m a.keeper a.letter.now a.random.now a.tray.now ≡ 0
+    → let a = (start (else c).before).args in move_cut_number a.m a.keeper a.letter.now a.random.now a.tray.now ≡ 0
 accepted c =
-    judged-number _ _ _ _ _ (else c).before.refusal.ensures (else c).if1.false ∙ (sym c.before.before.judge.ensures.0 ∙ c.if2.true)
+    judged_number _ _ _ _ _ (else c).before.refusal.ensures (else c).if1.false ∙ (sym c.before.before.judge.ensures.0 ∙ c.if2.true)
 
 length_most : (c : tie.Then2) → (start (else c).before).args.m.length ≤ 952
-length_most c = (lent (else c)).terms.of-terms.length_most
+length_most c = (lent (else c)).terms.of_terms.length_most
 
 few : (c : tie.Then2) → let m = (start (else c).before).args.m in m.length * m.told.order.n ≤ 15232
 few c = rows_few (lent (else c)).terms
@@ -63,23 +63,23 @@ fill-requires c κs =
     let then = c.before.before.before.before in
     (accepted then, (length-take-le _ _ (length_most then), length-take-le _ _ (few then)))
 
-same-length-2 : tie.Need-same-length-2
-same-length-2 c = search rules
+same_length_2 : tie.Need-same-length-2
+same_length_2 c = search rules
 
-returns-2 : tie.Need-returns-2
-returns-2 c =
+returns_2 : tie.Need-returns-2
+returns_2 c =
     let filled = c.before.before.before.before in
     let then = filled.before.before.before.before.before in
-    done-filled _ _ _ _ _ (else then).before.refusal.ensures (else then).if1.false then.before.before.judge.ensures.0 then.before.before.judge.ensures.1
+    done_filled _ _ _ _ _ (else then).before.refusal.ensures (else then).if1.false then.before.before.judge.ensures.0 then.before.before.judge.ensures.1
     then.if2.true filled.fill.ensures
 
 same-length-3 : tie.Need-same-length-3
 same-length-3 c = search rules
 
-returns-3 : tie.Need-returns-3
-returns-3 c =
+returns_3 : tie.Need-returns-3
+returns_3 c =
     let judged = c.before.before in
-    done-judged _ _ _ _ _ judged.before.before.refusal.ensures judged.before.if1.false judged.judge.ensures.0 judged.judge.ensures.1 c.if2.false
+    done_judged _ _ _ _ _ judged.before.before.refusal.ensures judged.before.if1.false judged.judge.ensures.0 judged.judge.ensures.1 c.if2.false
 
 pub cut_spec : {M : Type 1} → statement M
 cut_spec =
@@ -95,7 +95,7 @@ cut_spec =
     array-borrow-prefix-rows
     slice-aggregate-fill-2
     fill-requires
-    same-length-2
-    returns-2
+    same_length_2
+    returns_2
     same-length-3
-    returns-3)
+    returns_3)

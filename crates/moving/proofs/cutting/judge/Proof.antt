@@ -25,13 +25,13 @@ returns c =
     let read : read_of letter ≡ Good c.before.before.h.given.0.0 = cc in
     rw read (c.old-number.ensures, refl)
 
-returns-2 : tie.Need-returns-2
-returns-2 c =
+returns_2 : tie.Need-returns-2
+returns_2 c =
     let letter = c.before.before.before.before.before.args.letter.now in
     let read : read_of letter ≡ Bad c.before.number.given.0.0 c.before.number.given.0.1.0 = cc in
     rw read (refl, refl)
 
-pub judge-spec : {M : Type 1} → statement M
-judge-spec =
+pub judge_spec : {M : Type 1} → statement M
+judge_spec =
     tie.close
-    (tie.spec read-requires enum-known-h old-number-requires enum-known-number returns returns-2)
+    (tie.spec read-requires enum-known-h old-number-requires enum-known-number returns returns_2)

@@ -2,19 +2,19 @@
 -- Assumes nothing.
 use mathlib.Core.Path.{◌≡◌, sym, ◌∙◌}
 use borrow.Author.Rules.{rules}
-use Rattle.header.specs.FirstOf.{first-right, first-wrong}
-use Rattle.header.specs.Order.{lawfulKeeper}
-use Rattle.moving.specs.Cutting.{cutRefusal}
-use Rattle.moving.specs.Move.{moveNumber}
-use Rattle.moving.specs.MoveLaws.{move-terms}
+use Rattle.header.specs.FirstOf.{first_right, first_wrong}
+use Rattle.header.specs.Order.{lawful_keeper}
+use Rattle.moving.specs.Cutting.{cut_refusal}
+use Rattle.moving.specs.Move.{move_number}
+use Rattle.moving.specs.MoveLaws.{move_terms}
 use Rattle.moving.proofs.cutting.refusal.Statement.{statement}
 use Rattle.moving.proofs.cutting.refusal.Tie as tie
 
 -- the number of what is told, as found
-told : (c : tie.After-move-number) → let a = c.before.before.before.before.before.args in c.move-number.result ≡ moveNumber a.m (lawfulKeeper a.m.old a.keeper)
+told : (c : tie.After-move-number) → let a = c.before.before.before.before.before.args in c.move-number.result ≡ move_number a.m (lawful_keeper a.m.old a.keeper)
 told c = rw c.before.has-keeper.ensures at c.move-number.ensures
 
-told-right : (c : tie.Else1) → let a = c.before.before.before.before.before.before.args in moveNumber a.m (lawfulKeeper a.m.old a.keeper) ≡ 0
+told-right : (c : tie.Else1) → let a = c.before.before.before.before.before.before.args in move_number a.m (lawful_keeper a.m.old a.keeper) ≡ 0
 told-right c = sym (told c.before) ∙ c.if1.false
 
 has-keeper-requires : tie.Need-has-keeper-requires
@@ -24,11 +24,11 @@ move-number-requires : tie.Need-move-number-requires
 move-number-requires c κs = search rules
 
 returns : tie.Need-returns
-unfolding cutRefusal
-returns c = rw (← told c.before) (sym (first-wrong _ _ c.if1.true))
+unfolding cut_refusal
+returns c = rw (← told c.before) (sym (first_wrong _ _ c.if1.true))
 
 is-lent-requires : tie.Need-is-lent-requires
-is-lent-requires c κs = (move-terms _ _ (told-right c)).0
+is-lent-requires c κs = (move_terms _ _ (told-right c)).0
 
 within-requires : tie.Need-within-requires
 within-requires c κs = search rules
@@ -36,14 +36,14 @@ within-requires c κs = search rules
 lent-number-requires : tie.Need-lent-number-requires
 lent-number-requires c κs = search rules
 
-returns-2 : tie.Need-returns-2
-unfolding cutRefusal
-returns-2 c =
-    rw (first-right _ _ (told-right c.before.before.before))
+returns_2 : tie.Need-returns-2
+unfolding cut_refusal
+returns_2 c =
+    rw (first_right _ _ (told-right c.before.before.before))
     (c.lent-number.ensures ∙ rw (c.before.before.is-lent.ensures, c.before.within.ensures))
 
-pub refusal-spec : {M : Type 1} → statement M
-refusal-spec =
+pub refusal_spec : {M : Type 1} → statement M
+refusal_spec =
     tie.close
     (tie.spec
     has-keeper-requires
@@ -52,4 +52,4 @@ refusal-spec =
     is-lent-requires
     within-requires
     lent-number-requires
-    returns-2)
+    returns_2)

@@ -6,17 +6,17 @@ use native.Mathlib.Numerals.{add-one}
 use native.Mathlib.Omega.{arith}
 use lib.ListN.{length, take, drop}
 use borrow.Author.Rules.{rules}
-use Rattle.format.specs.Letter.{slotBytes}
-use Rattle.tray.specs.Tray.{headFor}
-use Rattle.shares.specs.Laying.{length_part, Laying, laying-none, laying-more, laying-done}
+use Rattle.format.specs.Letter.{slot_bytes}
+use Rattle.tray.specs.Tray.{head_for}
+use Rattle.shares.specs.Laying.{length_part, Laying, laying_none, laying_more, laying_done}
 use Rattle.shares.specs.Words.{row_of}
-use Rattle.moving.specs.CuttingLaws.{row_within, part-row, rows_few, new-lawful}
+use Rattle.moving.specs.CuttingLaws.{row_within, part_row, rows_few, new_lawful}
 use Rattle.moving.proofs.cutting.write_subs.Statement.{statement}
 use Rattle.moving.proofs.cutting.write_subs.Tie as tie
 
 abbrev invariant-loop : tie.invariant-loop
 invariant-loop m from rows tray₀ l n k₀ tray k =
-    (k ≤ n) × Laying 2048 (λ i. slotBytes 82 from (headFor m.told m.stamp l (suc i)) (row_of rows l (suc i))) (2048 * n) k tray
+    (k ≤ n) × Laying 2048 (λ i. slot_bytes 82 from (head_for m.told m.stamp l (suc i)) (row_of rows l (suc i))) (2048 * n) k tray
 
 abbrev decreases-loop : tie.decreases-loop
 decreases-loop m from rows tray₀ l n k₀ tray k = n - k
@@ -37,12 +37,12 @@ row-few c = omega (arith, rows_few (start c.before).pre.0, (start c.before).pre.
 room : (c : tie.In-loop invariant-loop decreases-loop) → 2048 * c.before.loop.k + 2048 ≤ length c.before.loop.tray
 room c = omega arith
 
-slot-size : (c : tie.In-loop invariant-loop decreases-loop)
+slot_size : (c : tie.In-loop invariant-loop decreases-loop)
     → let at = 2048 * c.before.loop.k in length (take (at + 2048 - at) (drop at c.before.loop.tray)) ≡ 2048
-slot-size c = length_part (2048 * c.before.loop.k) 2048 c.before.loop.tray (room c)
+slot_size c = length_part (2048 * c.before.loop.k) 2048 c.before.loop.tray (room c)
 
 loop-holds : tie.Need-loop-init invariant-loop decreases-loop
-loop-holds c = (search rules, laying-none _ _ _ _ c.before.before.requires.1.1)
+loop-holds c = (search rules, laying_none _ _ _ _ c.before.before.requires.1.1)
 
 mul-row : tie.Need-overflow-mul-row invariant-loop decreases-loop
 mul-row c = omega (arith, row_room c, row-few c)
@@ -89,7 +89,7 @@ write-as-requires c κs =
     let turn = headed.before in
     let m = (start turn.before).args.m in
     rw headed.head-for.ensures
-    (new-lawful (start turn.before).pre.0 turn.before.loop.k turn.loop-test.true, length_part (m.length * turn.before.loop.k) m.length _ (row_room turn), slot-size turn)
+    (new_lawful (start turn.before).pre.0 turn.before.loop.k turn.loop-test.true, length_part (m.length * turn.before.loop.k) m.length _ (row_room turn), slot_size turn)
 
 add-k : tie.Need-overflow-add-k invariant-loop decreases-loop
 add-k c = search rules
@@ -104,7 +104,7 @@ loop-again c =
     let turn = headed.before in
     let here = turn.before.loop in (
       search rules,
-      laying-more _ _ _ here.tray here.k _ here.invariant.1 (search rules) (written.write_as.auto.1.1.1.1.0 ∙ slot-size turn) (rw (headed.head-for.ensures, add-one, part-row) at written.write_as.ensures),
+      laying_more _ _ _ here.tray here.k _ here.invariant.1 (search rules) (written.write_as.auto.1.1.1.1.0 ∙ slot_size turn) (rw (headed.head-for.ensures, add-one, part_row) at written.write_as.ensures),
     )
 
 same_length : tie.Need-same-length invariant-loop decreases-loop
@@ -113,10 +113,10 @@ same_length c = c.before.loop.invariant.1.size ∙ sym (start c.before).pre.1.1
 returns : tie.Need-returns invariant-loop decreases-loop
 returns c =
     let all : c.before.loop.k ≡ (start c.before).args.m.told.order.n = omega arith in
-    laying-done _ _ _ c.before.loop.tray (start c.before).args.m.told.order.n (rw all at c.before.loop.invariant.1) refl
+    laying_done _ _ _ c.before.loop.tray (start c.before).args.m.told.order.n (rw all at c.before.loop.invariant.1) refl
 
-pub write-subs-spec : {M : Type 1} → statement M
-write-subs-spec =
+pub write_subs_spec : {M : Type 1} → statement M
+write_subs_spec =
     tie.close
     (tie.spec
     invariant-loop

@@ -4,7 +4,7 @@ use Prim.Native.Nat.{◌-◌}
 use mathlib.Core.Path.{◌≡◌}
 use native.Mathlib.Omega.{arith}
 use lib.ListN.{length}
-use Rattle.numerals.specs.SeveralLaws.{Going, going-none, going_more, list-none, list_full, list-wrong, list-last}
+use Rattle.numerals.specs.SeveralLaws.{Going, going_none, going_more, list_none, list_full, list_wrong, list_last}
 use borrow.Author.Rules.{rules}
 use borrow.Author.Tests.{not-true, not-false}
 use Rattle.numerals.proofs.list.list.Statement.{statement}
@@ -28,7 +28,7 @@ same_length c = search rules
 returns : tie.Need-returns invariant-loop decreases-loop
 returns c =
     let here = c.before.before in
-    list-none (list-wrong here.before.before.loop.invariant.0 here.part_at.ensures _ (not-true _ c.if1.true))
+    list_none (list_wrong here.before.before.loop.invariant.0 here.part_at.ensures _ (not-true _ c.if1.true))
 
 mul-room : tie.Need-overflow-mul-room invariant-loop decreases-loop
 mul-room c = search rules
@@ -39,15 +39,15 @@ slice-write-room c = search rules
 add-count : tie.Need-overflow-add-count invariant-loop decreases-loop
 add-count c = search rules
 
-same-length-2 : tie.Need-same-length-2 invariant-loop decreases-loop
-same-length-2 c = search rules
+same_length_2 : tie.Need-same-length-2 invariant-loop decreases-loop
+same_length_2 c = search rules
 
-returns-2 : tie.Need-returns-2 invariant-loop decreases-loop
-returns-2 c =
+returns_2 : tie.Need-returns-2 invariant-loop decreases-loop
+returns_2 c =
     let some = c.before.before in
     let here = some.before.before in
     let inv = here.before.before.loop.invariant in
-    let last = list-last inv.0 here.part_at.ensures here.before.loop-test.true (not-false _ some.if1.false) c.if2.true in
+    let last = list_last inv.0 here.part_at.ensures here.before.loop-test.true (not-false _ some.if1.false) c.if2.true in
     rw inv.1 at last
 
 add-from : tie.Need-overflow-add-from invariant-loop decreases-loop
@@ -67,13 +67,13 @@ loop-again c =
 same-length-3 : tie.Need-same-length-3 invariant-loop decreases-loop
 same-length-3 c = search rules
 
-returns-3 : tie.Need-returns-3 invariant-loop decreases-loop
-returns-3 c =
+returns_3 : tie.Need-returns-3 invariant-loop decreases-loop
+returns_3 c =
     let inv = c.before.loop.invariant in
-    list-none (rw inv.1 at (list_full inv.0 c.loop-test.false))
+    list_none (rw inv.1 at (list_full inv.0 c.loop-test.false))
 
-pub list-spec : {M : Type 1} → statement M
-list-spec =
+pub list_spec : {M : Type 1} → statement M
+list_spec =
     tie.close
     (tie.spec
     invariant-loop
@@ -85,10 +85,10 @@ list-spec =
     mul-room
     slice-write-room
     add-count
-    same-length-2
-    returns-2
+    same_length_2
+    returns_2
     add-from
     loop-less
     loop-again
     same-length-3
-    returns-3)
+    returns_3)

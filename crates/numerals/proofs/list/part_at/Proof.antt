@@ -2,7 +2,7 @@
 -- Assumes nothing.
 use mathlib.Core.Path.{refl}
 use Rattle.numerals.specs.OrderLaws.{to_the_end}
-use Rattle.numerals.specs.SeveralLaws.{part-read}
+use Rattle.numerals.specs.SeveralLaws.{part_read}
 use borrow.Author.Rules.{rules}
 use Rattle.numerals.proofs.list.part_at.Statement.{statement}
 use Rattle.numerals.proofs.list.part_at.Tie as tie
@@ -39,10 +39,10 @@ returns c =
     let found = c.before.before in
     let start = found.before.before.before in
     let first = rw (to_the_end start.args.from start.args.word.now) at found.comma.ensures in
-    part-read start.requires first refl c.number.ensures
+    part_read start.requires first refl c.number.ensures
 
-pub part-at-spec : {M : Type 1} → statement M
-part-at-spec =
+pub part_at_spec : {M : Type 1} → statement M
+part_at_spec =
     tie.close
     (tie.spec
     sub-comma

@@ -32,11 +32,11 @@ loop-less c = search rules
 loop-again : tie.Need-loop-preserved invariant-loop decreases-loop
 loop-again c = (search rules, below_more _ _ c.before.before.before.loop.invariant.1 c.if1.false)
 
-returns-2 : tie.Need-returns-2 invariant-loop decreases-loop
-returns-2 c = search rules
+returns_2 : tie.Need-returns-2 invariant-loop decreases-loop
+returns_2 c = search rules
 
-pub comma-spec : {M : Type 1} → statement M
-comma-spec =
+pub comma_spec : {M : Type 1} → statement M
+comma_spec =
     tie.close
     (tie.spec
     invariant-loop
@@ -47,4 +47,4 @@ comma-spec =
     add_at
     loop-less
     loop-again
-    returns-2)
+    returns_2)

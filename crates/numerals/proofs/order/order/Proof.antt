@@ -3,7 +3,7 @@
 use Prim.Native.Nat.{◌+◌}
 use mathlib.Core.Path.{sym}
 use lib.Seq.{length-take-le}
-use Rattle.numerals.specs.OrderLaws.{to_the_end, order-none, order-read}
+use Rattle.numerals.specs.OrderLaws.{to_the_end, order_none, order_read}
 use borrow.Author.Rules.{rules}
 use Rattle.numerals.proofs.order.order.Statement.{statement}
 use Rattle.numerals.proofs.order.order.Tie as tie
@@ -12,7 +12,7 @@ comma-requires : tie.Need-comma-requires
 comma-requires c κs = search rules
 
 returns : tie.Need-returns
-returns c = order-none c.before.comma.ensures c.if1.true
+returns c = order_none c.before.comma.ensures c.if1.true
 
 slice-aggregate-number : tie.Need-slice-aggregate-number
 slice-aggregate-number c = sym (length-take-le c.before.before.comma.result c.before.before.before.before.args.word.now (search rules))
@@ -38,15 +38,15 @@ two-numbers-requires c κs = search rules
 both-requires : tie.Need-both-requires
 both-requires c κs = search rules
 
-returns-2 : tie.Need-returns-2
-returns-2 c =
+returns_2 : tie.Need-returns-2
+returns_2 c =
     let some = c.before.before.before.before.before in
     let word = some.before.before.before.args.word.now in
     let behind = rw (to_the_end (some.before.comma.result + 1) word) at c.before.two-numbers.ensures in
-    order-read some.before.comma.ensures (search rules) c.before.before.before.number.ensures behind c.both.ensures
+    order_read some.before.comma.ensures (search rules) c.before.before.before.number.ensures behind c.both.ensures
 
-pub order-spec : {M : Type 1} → statement M
-order-spec =
+pub order_spec : {M : Type 1} → statement M
+order_spec =
     tie.close
     (tie.spec
     comma-requires
@@ -59,4 +59,4 @@ order-spec =
     part-two-numbers-end
     two-numbers-requires
     both-requires
-    returns-2)
+    returns_2)

@@ -3,7 +3,7 @@
 use Prim.Native.Nat.{◌+◌}
 use mathlib.Core.Path.{sym}
 use lib.Seq.{length-take-le}
-use Rattle.numerals.specs.OrderLaws.{to_the_end, pair-none, pair_read}
+use Rattle.numerals.specs.OrderLaws.{to_the_end, pair_none, pair_read}
 use borrow.Author.Rules.{rules}
 use Rattle.numerals.proofs.order.two_numbers.Statement.{statement}
 use Rattle.numerals.proofs.order.two_numbers.Tie as tie
@@ -12,7 +12,7 @@ comma-requires : tie.Need-comma-requires
 comma-requires c κs = search rules
 
 returns : tie.Need-returns
-returns c = pair-none c.before.comma.ensures c.if1.true
+returns c = pair_none c.before.comma.ensures c.if1.true
 
 slice-aggregate-number : tie.Need-slice-aggregate-number
 slice-aggregate-number c = sym (length-take-le c.before.before.comma.result c.before.before.before.before.args.word.now (search rules))
@@ -38,15 +38,15 @@ number-requires-2 c κs = search rules
 both-requires : tie.Need-both-requires
 both-requires c κs = search rules
 
-returns-2 : tie.Need-returns-2
-returns-2 c =
+returns_2 : tie.Need-returns-2
+returns_2 c =
     let some = c.before.before.before.before.before in
     let word = some.before.before.before.args.word.now in
     let behind = rw (to_the_end (some.before.comma.result + 1) word) at c.before.number2.ensures in
     pair_read some.before.comma.ensures (search rules) c.before.before.before.number.ensures behind c.both.ensures
 
-pub two-numbers-spec : {M : Type 1} → statement M
-two-numbers-spec =
+pub two_numbers_spec : {M : Type 1} → statement M
+two_numbers_spec =
     tie.close
     (tie.spec
     comma-requires
@@ -59,4 +59,4 @@ two-numbers-spec =
     part-number-end
     number-requires-2
     both-requires
-    returns-2)
+    returns_2)

@@ -14,11 +14,11 @@ decreases-loop some others option₀ option = 10 - option
 loop-holds : tie.Need-loop-init invariant-loop decreases-loop
 loop-holds c = search rules
 
-has-requires : tie.Need-has-requires invariant-loop decreases-loop
-has-requires c κs = search rules
+has_requires : tie.Need-has-requires invariant-loop decreases-loop
+has_requires c κs = search rules
 
-has-requires-2 : tie.Need-has-requires-2 invariant-loop decreases-loop
-has-requires-2 c κs = search rules
+has_requires_2 : tie.Need-has-requires-2 invariant-loop decreases-loop
+has_requires_2 c κs = search rules
 
 returns : tie.Need-returns invariant-loop decreases-loop
 returns c = search rules
@@ -32,20 +32,20 @@ loop-less c = search rules
 loop-again : tie.Need-loop-preserved invariant-loop decreases-loop
 loop-again c = search rules
 
-returns-2 : tie.Need-returns-2 invariant-loop decreases-loop
-returns-2 c = search rules
+returns_2 : tie.Need-returns-2 invariant-loop decreases-loop
+returns_2 c = search rules
 
-pub first-without-spec : {M : Type 1} → statement M
-first-without-spec =
+pub first_without_spec : {M : Type 1} → statement M
+first_without_spec =
     tie.close
     (tie.spec
     invariant-loop
     decreases-loop
     loop-holds
-    has-requires
-    has-requires-2
+    has_requires
+    has_requires_2
     returns
     add-option
     loop-less
     loop-again
-    returns-2)
+    returns_2)

@@ -2,7 +2,7 @@
 -- Assumes nothing.
 use borrow.Author.Rules.{rules}
 use borrow.Author.Tests.{lt-ltb, le-ltb}
-use Rattle.pick.specs.Ranks.{comesNext}
+use Rattle.pick.specs.Ranks.{comes_next}
 use Rattle.pick.proofs.groups.comes_next.Statement.{statement}
 use Rattle.pick.proofs.groups.comes_next.Tie as tie
 
@@ -11,18 +11,18 @@ group-size-requires c κs = search rules
 
 -- the first two tests hold, and the third decides
 returns : tie.Need-returns
-unfolding comesNext
+unfolding comes_next
 returns c = rw (lt-ltb _ _ c.before.before.if1.true, lt-ltb _ _ c.before.if2.true, c.group-size.ensures)
 
 -- the second fails
-returns-2 : tie.Need-returns-2
-unfolding comesNext
-returns-2 c = rw (lt-ltb _ _ c.before.if1.true, le-ltb _ _ c.if2.false)
+returns_2 : tie.Need-returns-2
+unfolding comes_next
+returns_2 c = rw (lt-ltb _ _ c.before.if1.true, le-ltb _ _ c.if2.false)
 
 -- the first fails
-returns-3 : tie.Need-returns-3
-unfolding comesNext
-returns-3 c = rw (le-ltb _ _ c.if1.false)
+returns_3 : tie.Need-returns-3
+unfolding comes_next
+returns_3 c = rw (le-ltb _ _ c.if1.false)
 
-pub comes-next-spec : {M : Type 1} → statement M
-comes-next-spec = tie.close (tie.spec group-size-requires returns returns-2 returns-3)
+pub comes_next_spec : {M : Type 1} → statement M
+comes_next_spec = tie.close (tie.spec group-size-requires returns returns_2 returns_3)

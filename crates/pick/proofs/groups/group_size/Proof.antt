@@ -6,7 +6,7 @@ use mathlib.Core.Logic.{⊎_elim}
 use native.Mathlib.Omega.{arith}
 use borrow.Author.Rules.{rules}
 use Rattle.pick.specs.Ranks.{size_of}
-use Rattle.pick.proofs.Counting.{size_none, size-most, size-one-more, size_same}
+use Rattle.pick.proofs.Counting.{size_none, size_most, size_one_more, size_same}
 use Rattle.pick.proofs.groups.group_size.Statement.{statement}
 use Rattle.pick.proofs.groups.group_size.Tie as tie
 
@@ -28,7 +28,7 @@ shared-slice-read-if1 c = search rules
 add-size : tie.Need-overflow-add-size invariant-loop decreases-loop
 add-size c =
     let at = c.before.before.before in
-    omega (arith, size-most at.before.args.ranks.now at.before.args.rank at.loop.k)
+    omega (arith, size_most at.before.args.ranks.now at.before.args.rank at.loop.k)
 
 add-k : tie.Need-overflow-add-k invariant-loop decreases-loop
 add-k c = search rules
@@ -42,7 +42,7 @@ loop-again c =
     let ranks = at.before.args.ranks.now in
     let rank = at.before.args.rank in
     ⊎_elim
-    (λ w. omega (arith, size-one-more ranks rank at.loop.k w.0.taken))
+    (λ w. omega (arith, size_one_more ranks rank at.loop.k w.0.taken))
     (λ w. omega (arith, size_same ranks rank at.loop.k w.0.left))
     c.if1.branch
 
@@ -52,8 +52,8 @@ returns c =
     let last : c.before.loop.k ≡ start.args.n = omega arith in
     c.before.loop.invariant.1 ∙ ap (λ k. size_of start.args.ranks.now k start.args.rank) last
 
-pub group-size-spec : {M : Type 1} → statement M
-group-size-spec =
+pub group_size_spec : {M : Type 1} → statement M
+group_size_spec =
     tie.close
     (tie.spec
     invariant-loop

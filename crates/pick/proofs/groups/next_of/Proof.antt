@@ -3,7 +3,7 @@
 use Prim.Native.Nat.{◌-◌}
 use mathlib.Core.Logic.{⊎_elim}
 use borrow.Author.Rules.{rules}
-use Rattle.pick.proofs.Next.{NextTo, next-none, next-kept, next_more, next-all}
+use Rattle.pick.proofs.Next.{NextTo, next_none, next_kept, next_more, next_all}
 use Rattle.pick.proofs.groups.next_of.Statement.{statement}
 use Rattle.pick.proofs.groups.next_of.Tie as tie
 
@@ -14,7 +14,7 @@ abbrev decreases-loop : tie.decreases-loop
 decreases-loop ranks n least bound best₀ k₀ best k = n - k
 
 loop-holds : tie.Need-loop-init invariant-loop decreases-loop
-loop-holds c = next-none
+loop-holds c = next_none
 
 mul-rank : tie.Need-overflow-mul-rank invariant-loop decreases-loop
 mul-rank c = search rules
@@ -36,14 +36,14 @@ loop-again c =
     let turn = c.before.before.before in
     ⊎_elim
     (λ w. rw w.1 (next_more turn.before.loop.invariant turn.loop-test.true (rw (← c.before.comes-next.ensures) w.0.taken)))
-    (λ w. rw w.1 (next-kept turn.before.loop.invariant turn.loop-test.true (rw (← c.before.comes-next.ensures) w.0.left)))
+    (λ w. rw w.1 (next_kept turn.before.loop.invariant turn.loop-test.true (rw (← c.before.comes-next.ensures) w.0.left)))
     c.if1.branch
 
 returns : tie.Need-returns invariant-loop decreases-loop
-returns c = next-all c.before.loop.invariant c.loop-test.false
+returns c = next_all c.before.loop.invariant c.loop-test.false
 
-pub next-of-spec : {M : Type 1} → statement M
-next-of-spec =
+pub next_of_spec : {M : Type 1} → statement M
+next_of_spec =
     tie.close
     (tie.spec
     invariant-loop

@@ -4,7 +4,7 @@ use Prim.Native.Nat.{◌-◌}
 use native.Mathlib.Omega.{arith}
 use borrow.Author.Rules.{rules}
 use Rattle.tray.specs.SlotLaws.{length-slot}
-use Rattle.pick.proofs.Gathering.{GatheredTo, gathered_none, gathered_next, gathered-all}
+use Rattle.pick.proofs.Gathering.{GatheredTo, gathered_none, gathered_next, gathered_all}
 use Rattle.pick.proofs.ranks.gather.Statement.{statement}
 use Rattle.pick.proofs.ranks.gather.Tie as tie
 
@@ -51,10 +51,10 @@ same_length : tie.Need-same-length invariant-loop decreases-loop
 same_length c = c.before.loop.invariant.size
 
 returns : tie.Need-returns invariant-loop decreases-loop
-returns c = gathered-all c.before.loop.invariant c.loop-test.false
+returns c = gathered_all c.before.loop.invariant c.loop-test.false
 
-pub gather-spec : {M : Type 1} → statement M
-gather-spec =
+pub gather_spec : {M : Type 1} → statement M
+gather_spec =
     tie.close
     (tie.spec
     invariant-loop

@@ -1,7 +1,7 @@
 -- `pick::ranks::may_have` meets its contract, test by test.
 -- Assumes nothing.
 use borrow.Author.Rules.{rules}
-use Rattle.pick.specs.Ranks.{mayHave}
+use Rattle.pick.specs.Ranks.{may_have}
 use Rattle.pick.proofs.ranks.may_have.Statement.{statement}
 use Rattle.pick.proofs.ranks.may_have.Tie as tie
 
@@ -16,13 +16,13 @@ same-requires c κs = search rules
 
 -- the first test holds, and the second decides
 returns : tie.Need-returns
-unfolding mayHave
+unfolding may_have
 returns c = rw (← c.before.head-for.ensures, ← c.same.ensures, ← c.before.before.before.lawful.ensures, c.before.before.if1.true)
 
 -- it fails
-returns-2 : tie.Need-returns-2
-unfolding mayHave
-returns-2 c = rw (← c.before.lawful.ensures, c.if1.false)
+returns_2 : tie.Need-returns-2
+unfolding may_have
+returns_2 c = rw (← c.before.lawful.ensures, c.if1.false)
 
-pub may-have-spec : {M : Type 1} → statement M
-may-have-spec = tie.close (tie.spec lawful-requires head-for-requires same-requires returns returns-2)
+pub may_have_spec : {M : Type 1} → statement M
+may_have_spec = tie.close (tie.spec lawful-requires head-for-requires same-requires returns returns_2)

@@ -5,7 +5,7 @@ use native.Mathlib.Omega.{arith}
 use lib.ListN.{length, take}
 use lib.Seq.{length-take-le}
 use borrow.Author.Rules.{rules}
-use Rattle.pick.proofs.Said.{may-facts}
+use Rattle.pick.proofs.Said.{may_facts}
 use Rattle.pick.proofs.ranks.rank_in.Statement.{statement}
 use Rattle.pick.proofs.ranks.rank_in.Tie as tie
 
@@ -23,15 +23,15 @@ may-have-requires : tie.Need-may-have-requires
 may-have-requires c κs = search rules
 
 rank-of-requires : tie.Need-rank-of-requires
-rank-of-requires c κs = (may-facts _ _ _ (sym c.before.may-have.ensures ∙ c.if1.true)).length_most
+rank-of-requires c κs = (may_facts _ _ _ (sym c.before.may-have.ensures ∙ c.if1.true)).length_most
 
 returns : tie.Need-returns
 returns c =
     let may = c.before.before in
     rw (← may.before.head_of.ensures, ← may.may-have.ensures, c.before.if1.true) c.rank-of.ensures
 
-returns-2 : tie.Need-returns-2
-returns-2 c = rw (← c.before.before.head_of.ensures, ← c.before.may-have.ensures, c.if1.false)
+returns_2 : tie.Need-returns-2
+returns_2 c = rw (← c.before.before.head_of.ensures, ← c.before.may-have.ensures, c.if1.false)
 
-pub rank-in-spec : {M : Type 1} → statement M
-rank-in-spec = tie.close (tie.spec slice-aggregate-head-of head-of-requires may-have-requires rank-of-requires returns returns-2)
+pub rank_in_spec : {M : Type 1} → statement M
+rank_in_spec = tie.close (tie.spec slice-aggregate-head-of head-of-requires may-have-requires rank-of-requires returns returns_2)

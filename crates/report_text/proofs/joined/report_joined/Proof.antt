@@ -3,8 +3,8 @@
 use mathlib.Core.Path.{refl}
 use native.Mathlib.Omega.{arith}
 use borrow.Author.Rules.{rules}
-use Rattle.report_text.specs.Sets.{lines-of-set}
-use Rattle.join.specs.Room.{take-zeros, length_front}
+use Rattle.report_text.specs.Sets.{lines_of-set}
+use Rattle.join.specs.Room.{take_zeros, length_front}
 use Rattle.report_text.proofs.joined.report_joined.Statement.{statement}
 use Rattle.report_text.proofs.joined.report_joined.Tie as tie
 
@@ -38,10 +38,10 @@ returns c =
     let usables = lines.before.before.before in
     let join = usables.before.before in
     let start = join.before.before.before.before in
-    record { result = join.join.result; left = join.join.new.1.1.1.1.0; done = rw (take-zeros start.args.l 952 start.requires.0.short) at join.join.ensures; placed = record { written = rw (usables.usable-in.ensures, lines-of-set) at lines.put-lines.ensures; numbered = refl } }
+    record { result = join.join.result; left = join.join.new.1.1.1.1.0; done = rw (take_zeros start.args.l 952 start.requires.0.short) at join.join.ensures; placed = record { written = rw (usables.usable-in.ensures, lines_of-set) at lines.put-lines.ensures; numbered = refl } }
 
-pub report-joined-spec : {M : Type 1} → statement M
-report-joined-spec =
+pub report_joined_spec : {M : Type 1} → statement M
+report_joined_spec =
     tie.close
     (tie.spec
     array-borrow-prefix-room

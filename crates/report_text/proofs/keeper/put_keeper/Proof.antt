@@ -5,11 +5,11 @@ use borrow.Author.Rules.{rules}
 use Rattle.report_text.proofs.keeper.put_keeper.Statement.{statement}
 use Rattle.report_text.proofs.keeper.put_keeper.Tie as tie
 
-has-requires : tie.Need-has-requires
-has-requires c κs = search rules
+has_requires : tie.Need-has-requires
+has_requires c κs = search rules
 
-has-requires-2 : tie.Need-has-requires-2
-has-requires-2 c κs = search rules
+has_requires_2 : tie.Need-has-requires-2
+has_requires_2 c κs = search rules
 
 standing-of-requires : tie.Need-standing-of-requires
 standing-of-requires c κs = search rules
@@ -32,12 +32,12 @@ returns c =
     let stands = line.before.before in
     rw (stands.standing-of.ensures, stands.before.has2.ensures, stands.before.before.has.ensures, add-one) at line.put-keeper-line.ensures
 
-pub put-keeper-spec : {M : Type 1} → statement M
-put-keeper-spec =
+pub put_keeper_spec : {M : Type 1} → statement M
+put_keeper_spec =
     tie.close
     (tie.spec
-    has-requires
-    has-requires-2
+    has_requires
+    has_requires_2
     standing-of-requires
     cast-put-keeper-line
     add-put-keeper-line

@@ -7,14 +7,14 @@ use Rattle.report_text.proofs.keeper.standing_of.Tie as tie
 returns : tie.Need-returns
 returns c = rw (c.before.if1.true, eq-eqb _ 7 c.if2.true)
 
-returns-2 : tie.Need-returns-2
-returns-2 c = rw (c.before.before.if1.true, ne_eqb _ 7 c.before.if2.false, c.if3.true)
+returns_2 : tie.Need-returns-2
+returns_2 c = rw (c.before.before.if1.true, ne_eqb _ 7 c.before.if2.false, c.if3.true)
 
-returns-3 : tie.Need-returns-3
-returns-3 c = rw (c.before.before.if1.true, ne_eqb _ 7 c.before.if2.false, c.if3.false)
+returns_3 : tie.Need-returns-3
+returns_3 c = rw (c.before.before.if1.true, ne_eqb _ 7 c.before.if2.false, c.if3.false)
 
-returns-4 : tie.Need-returns-4
-returns-4 c = rw c.if1.false
+returns_4 : tie.Need-returns-4
+returns_4 c = rw c.if1.false
 
-pub standing-of-spec : {M : Type 1} → statement M
-standing-of-spec = tie.close (tie.spec returns returns-2 returns-3 returns-4)
+pub standing_of_spec : {M : Type 1} → statement M
+standing_of_spec = tie.close (tie.spec returns returns_2 returns_3 returns_4)

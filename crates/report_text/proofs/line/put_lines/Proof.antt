@@ -2,10 +2,10 @@
 -- Assumes nothing.
 use native.Mathlib.Omega.{arith}
 use borrow.Author.Rules.{rules}
-use Rattle.lines.specs.LineLaws.{length-key-line}
-use Rattle.lines.specs.Written.{written-more}
+use Rattle.lines.specs.LineLaws.{length-key_line}
+use Rattle.lines.specs.Written.{written_more}
 use Rattle.report_text.specs.Sets.{lines_of}
-use Rattle.report_text.proofs.JoinedLines.{Short, short-lines}
+use Rattle.report_text.proofs.JoinedLines.{Short, short_lines}
 use Rattle.report_text.proofs.line.put_lines.Statement.{statement}
 use Rattle.report_text.proofs.line.put_lines.Tie as tie
 
@@ -14,7 +14,7 @@ short : (c : tie.After-struct-known)
 short c =
     let start = c.before.before.before.before.before.before.before.before.before.before in
     let a = start.args in
-    short-lines a.n a.key a.stamp a.l a.usable a.joined start.requires.0 (omega arith) (omega arith) (omega arith) (omega arith) (omega arith) (omega arith)
+    short_lines a.n a.key a.stamp a.l a.usable a.joined start.requires.0 (omega arith) (omega arith) (omega arith) (omega arith) (omega arith) (omega arith)
 
 put-key-line-requires : tie.Need-put-key-line-requires
 put-key-line-requires c κs = search rules
@@ -22,7 +22,7 @@ put-key-line-requires c κs = search rules
 put-keepers-requires : tie.Need-put-keepers-requires
 put-keepers-requires c κs =
     let a = c.before.before.before.before.before.before.args in
-    let first = length-key-line a.key a.stamp a.l (omega arith) (omega arith) (omega arith) in
+    let first = length-key_line a.key a.stamp a.l (omega arith) (omega arith) (omega arith) in
     (omega arith, omega arith)
 
 put-count-line-requires : tie.Need-put-count-line-requires
@@ -46,12 +46,12 @@ returns c =
     let keepers = count.before.before.before.before.before in
     let first = keepers.before.before.before.before in
     let lines = short count.before.before in
-    written-more (omega arith) first.put-key-line.ensures
-    (written-more (omega arith) keepers.put-keepers.ensures
-    (written-more (omega arith) count.put-count-line.ensures answer.put-answer-line.ensures))
+    written_more (omega arith) first.put-key-line.ensures
+    (written_more (omega arith) keepers.put-keepers.ensures
+    (written_more (omega arith) count.put-count-line.ensures answer.put-answer-line.ensures))
 
-pub put-lines-spec : {M : Type 1} → statement M
-put-lines-spec =
+pub put_lines_spec : {M : Type 1} → statement M
+put_lines_spec =
     tie.close
     (tie.spec
     put-key-line-requires

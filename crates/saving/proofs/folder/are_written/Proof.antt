@@ -50,11 +50,11 @@ loop-less c = search rules
 loop-again : tie.Need-loop-preserved invariant-loop decreases-loop
 loop-again c = search rules
 
-returns-2 : tie.Need-returns-2 invariant-loop decreases-loop
-returns-2 c = search rules
+returns_2 : tie.Need-returns-2 invariant-loop decreases-loop
+returns_2 c = search rules
 
-pub are-written-spec : {M : Type 1} → statement M
-are-written-spec =
+pub are_written_spec : {M : Type 1} → statement M
+are_written_spec =
     tie.close
     (tie.spec
     invariant-loop
@@ -72,4 +72,4 @@ are-written-spec =
     add-k
     loop-less
     loop-again
-    returns-2)
+    returns_2)

@@ -36,8 +36,8 @@ shown-requires c κs = search rules
 add-out : tie.Need-overflow-add-out invariant-loop decreases-loop
 add-out c = search rules
 
-slice-write-out : tie.Need-slice-write-out invariant-loop decreases-loop
-slice-write-out c = search rules
+slice_write_out : tie.Need-slice-write-out invariant-loop decreases-loop
+slice_write_out c = search rules
 
 add-i : tie.Need-overflow-add-i invariant-loop decreases-loop
 add-i c = search rules
@@ -48,8 +48,8 @@ loop-less c = search rules
 loop-again : tie.Need-loop-preserved invariant-loop decreases-loop
 loop-again c = search rules
 
-add-result : tie.Need-overflow-add-result invariant-loop decreases-loop
-add-result c = search rules
+add_result : tie.Need-overflow-add-result invariant-loop decreases-loop
+add_result c = search rules
 
 same_length : tie.Need-same-length invariant-loop decreases-loop
 same_length c = search rules
@@ -70,10 +70,10 @@ add_spec =
     shared-slice-read-shown
     shown-requires
     add-out
-    slice-write-out
+    slice_write_out
     add-i
     loop-less
     loop-again
-    add-result
+    add_result
     same_length
     returns)

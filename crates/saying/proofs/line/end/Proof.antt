@@ -16,19 +16,19 @@ sub-least c = search rules
 least-requires : tie.Need-least-requires
 least-requires c κs = search rules
 
-slice-write-out : tie.Need-slice-write-out
-slice-write-out c = search rules
+slice_write_out : tie.Need-slice-write-out
+slice_write_out c = search rules
 
-add-result : tie.Need-overflow-add-result
-add-result c = search rules
+add_result : tie.Need-overflow-add-result
+add_result c = search rules
 
 same_length : tie.Need-same-length
 same_length c = search rules
 
-returns-2 : tie.Need-returns-2
-returns-2 c = prefix_len_of_le _ _ (simp length-set (omega arith))
+returns_2 : tie.Need-returns-2
+returns_2 c = prefix_len_of_le _ _ (simp length-set (omega arith))
 
-pub end-spec : {M : Type 1} → statement M
-end-spec =
+pub end_spec : {M : Type 1} → statement M
+end_spec =
     tie.close
-    (tie.spec returns sub-least least-requires slice-write-out add-result same_length returns-2)
+    (tie.spec returns sub-least least-requires slice_write_out add_result same_length returns_2)

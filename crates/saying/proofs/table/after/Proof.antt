@@ -8,17 +8,17 @@ use borrow.Author.Rules.{rules}
 use Rattle.saying.proofs.table.after.Statement.{statement}
 use Rattle.saying.proofs.table.after.Tie as tie
 
-add-result : tie.Need-overflow-add-result
-add-result c = search rules
+add_result : tie.Need-overflow-add-result
+add_result c = search rules
 
 returns : tie.Need-returns
 returns c = (refl, omega arith)
 
-returns-2 : tie.Need-returns-2
-returns-2 c =
+returns_2 : tie.Need-returns-2
+returns_2 c =
     let text = c.before.args.text.now in
     let end = c.before.args.end in
     (drop_of_length-le text {i = end} (omega arith) ∙ sym (drop_of_length-le text {i = end + 1} (omega arith)), omega arith)
 
-pub after-spec : {M : Type 1} → statement M
-after-spec = tie.close (tie.spec add-result returns returns-2)
+pub after_spec : {M : Type 1} → statement M
+after_spec = tie.close (tie.spec add_result returns returns_2)

@@ -5,7 +5,7 @@ use mathlib.Core.Path.{◌≡◌, refl}
 use native.Mathlib.Omega.{arith}
 use lib.ListN.{length, drop}
 use Rattle.saying.specs.Table.{rest_at}
-use Rattle.saying.proofs.Lines.{line-part, line-next}
+use Rattle.saying.proofs.Lines.{line_part, line_next}
 use borrow.Author.Rules.{rules}
 use Rattle.saying.proofs.table.entry.Statement.{statement}
 use Rattle.saying.proofs.table.entry.Tie as tie
@@ -37,7 +37,7 @@ loop-again : tie.Need-loop-preserved invariant-loop decreases-loop
 loop-again c =
     let ended = c.before.line-end in
     let turn = c.before.before.before in
-    let next = line-next turn.before.before.args.text.now turn.loop.from ended.result turn.loop.passed in
+    let next = line_next turn.before.before.args.text.now turn.loop.from ended.result turn.loop.passed in
     (omega arith, c.after.ensures.1, next turn.loop.invariant.2 ended.ensures.0 c.after.result c.after.ensures.0)
 
 line-end-requires-2 : tie.Need-line-end-requires-2 invariant-loop decreases-loop
@@ -47,7 +47,7 @@ returns : tie.Need-returns invariant-loop decreases-loop
 returns c =
     let turn = c.before.before in
     let start = turn.before.before.args in
-    let part = line-part start.text.now turn.loop.from c.line-end2.result turn.loop.passed turn.loop.invariant.2 c.line-end2.ensures.0 in
+    let part = line_part start.text.now turn.loop.from c.line-end2.result turn.loop.passed turn.loop.invariant.2 c.line-end2.ensures.0 in
     let all : turn.loop.passed ≡ start.number = omega arith in
     (omega arith, (omega arith, rw all at part))
 

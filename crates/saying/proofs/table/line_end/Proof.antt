@@ -6,7 +6,7 @@ use native.Mathlib.Omega.{arith}
 use lib.ListN.{length, drop}
 use borrow.Author.Rules.{rules}
 use Rattle.saying.specs.Table.{line_of}
-use Rattle.saying.proofs.Lines.{line-ends, line-goes, line-none}
+use Rattle.saying.proofs.Lines.{line_ends, line_goes, line_none}
 use Rattle.saying.proofs.table.line_end.Statement.{statement}
 use Rattle.saying.proofs.table.line_end.Tie as tie
 
@@ -26,7 +26,7 @@ shared-slice-read-if1 c = search rules
 returns : tie.Need-returns invariant-loop decreases-loop
 returns c =
     let turn = c.before.before.before in
-    (omega (arith, line-ends turn.before.args.text.now turn.loop.at (omega arith) c.if1.true), omega arith)
+    (omega (arith, line_ends turn.before.args.text.now turn.loop.at (omega arith) c.if1.true), omega arith)
 
 add_at : tie.Need-overflow-add-at invariant-loop decreases-loop
 add_at c = search rules
@@ -37,15 +37,15 @@ loop-less c = search rules
 loop-again : tie.Need-loop-preserved invariant-loop decreases-loop
 loop-again c =
     let turn = c.before.before.before in
-    (omega arith, omega (arith, line-goes turn.before.args.text.now turn.loop.at (omega arith) c.if1.false))
+    (omega arith, omega (arith, line_goes turn.before.args.text.now turn.loop.at (omega arith) c.if1.false))
 
-returns-2 : tie.Need-returns-2 invariant-loop decreases-loop
-returns-2 c =
+returns_2 : tie.Need-returns-2 invariant-loop decreases-loop
+returns_2 c =
     let turn = c.before in
-    (omega (arith, line-none turn.before.args.text.now turn.loop.at (omega arith)), omega arith)
+    (omega (arith, line_none turn.before.args.text.now turn.loop.at (omega arith)), omega arith)
 
-pub line-end-spec : {M : Type 1} → statement M
-line-end-spec =
+pub line_end_spec : {M : Type 1} → statement M
+line_end_spec =
     tie.close
     (tie.spec
     invariant-loop
@@ -56,4 +56,4 @@ line-end-spec =
     add_at
     loop-less
     loop-again
-    returns-2)
+    returns_2)

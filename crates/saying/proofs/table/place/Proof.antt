@@ -6,7 +6,7 @@ use native.Mathlib.Omega.{arith}
 use lib.ListN.{length, drop}
 use borrow.Author.Count.{below_more}
 use Rattle.saying.specs.Table.{rest_at, line_at}
-use Rattle.saying.proofs.Lines.{line-next, line-found, line_other}
+use Rattle.saying.proofs.Lines.{line_next, line_found, line_other}
 use borrow.Author.Rules.{rules}
 use Rattle.saying.proofs.table.place.Statement.{statement}
 use Rattle.saying.proofs.table.place.Tie as tie
@@ -43,7 +43,7 @@ returns c =
     let ended = c.before.before.before.line-end in
     let turn = c.before.before.before.before.before in
     let start = turn.before.before.before.args in
-    let line = line-found start.text.now turn.loop.from ended.result turn.loop.number turn.loop.invariant.2 ended.ensures.0 in
+    let line = line_found start.text.now turn.loop.from ended.result turn.loop.number turn.loop.invariant.2 ended.ensures.0 in
     let found = line start.word.now c.before.same.ensures c.if1.true in
     (search rules, record { before = turn.loop.invariant.3; found = λ _. found })
 
@@ -61,19 +61,19 @@ loop-again c =
     let ended = c.before.before.before.before.line-end in
     let turn = c.before.before.before.before.before.before in
     let start = turn.before.before.before.args in
-    let next = line-next start.text.now turn.loop.from ended.result turn.loop.number turn.loop.invariant.2 ended.ensures.0 in
+    let next = line_next start.text.now turn.loop.from ended.result turn.loop.number turn.loop.invariant.2 ended.ensures.0 in
     let other = line_other start.text.now turn.loop.from ended.result turn.loop.number turn.loop.invariant.2 ended.ensures.0 in
     let not-here = other start.word.now c.before.before.same.ensures c.before.if1.false in
     (omega arith, c.after.ensures.1, next c.after.result c.after.ensures.0, below_more _ _ turn.loop.invariant.3 not-here)
 
-returns-2 : tie.Need-returns-2 invariant-loop decreases-loop
-returns-2 c =
+returns_2 : tie.Need-returns-2 invariant-loop decreases-loop
+returns_2 c =
     let turn = c.before in
     let all : turn.loop.number ≡ turn.before.before.before.args.entries = omega arith in
     (omega arith, record { before = rw all at turn.loop.invariant.3; found = λ h. absurd (omega arith) })
 
-pub place-spec : {M : Type 1} → statement M
-place-spec =
+pub place_spec : {M : Type 1} → statement M
+place_spec =
     tie.close
     (tie.spec
     invariant-loop
@@ -89,4 +89,4 @@ place-spec =
     add-number
     loop-less
     loop-again
-    returns-2)
+    returns_2)

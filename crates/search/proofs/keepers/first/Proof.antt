@@ -10,7 +10,7 @@ use Rattle.lists.specs.Count.{count}
 use Rattle.lists.specs.From.{from}
 use Rattle.lists.specs.KeeperSet.{member}
 use Rattle.lists.specs.KeeperSetLaws.{ones-member}
-use Rattle.search.proofs.Gathered.{Gathered, gathered-more, gathered-in, gathered-out, gathered-all}
+use Rattle.search.proofs.Gathered.{Gathered, gathered_more, gathered_in, gathered_out, gathered_all}
 use Rattle.search.proofs.keepers.first.Statement.{statement}
 use Rattle.search.proofs.keepers.first.Tie as tie
 
@@ -29,10 +29,10 @@ enough : (c : tie.At-loop invariant-loop decreases-loop) → c.before.args.t + 1
 enough c = let a = c.before in omega (arith, a.requires.1, ones-member 16 a.args.set a.ranges.set.fits)
 
 more : (c : tie.In-loop invariant-loop decreases-loop) → c.before.loop.k < 16
-more c = gathered-more (enough c.before) c.before.loop.invariant c.loop-test.true
+more c = gathered_more (enough c.before) c.before.loop.invariant c.loop-test.true
 
-has-requires : tie.Need-has-requires invariant-loop decreases-loop
-has-requires c κs = more c
+has_requires : tie.Need-has-requires invariant-loop decreases-loop
+has_requires c κs = more c
 
 cast-who : tie.Need-overflow-cast-who invariant-loop decreases-loop
 cast-who c = omega (arith, more c.before.before)
@@ -60,12 +60,12 @@ loop-again c =
     let here = c.before.before.before in
     let test = c.before.before.loop-test.true in
     let of = sym c.before.has.ensures in
-    ⊎_elim (λ w. rw (w.1, w.2) (gathered-in (enough here) here.loop.invariant here.before.requires.0 test (of ∙ w.0.taken)))
-    (λ w. rw (w.1, w.2) (gathered-out (enough here) here.loop.invariant test (of ∙ w.0.left)))
+    ⊎_elim (λ w. rw (w.1, w.2) (gathered_in (enough here) here.loop.invariant here.before.requires.0 test (of ∙ w.0.taken)))
+    (λ w. rw (w.1, w.2) (gathered_out (enough here) here.loop.invariant test (of ∙ w.0.left)))
     c.if1.branch
 
 returns : tie.Need-returns invariant-loop decreases-loop
-returns c = gathered-all (enough c.before) c.before.loop.invariant c.loop-test.false
+returns c = gathered_all (enough c.before) c.before.loop.invariant c.loop-test.false
 
 pub first_spec : {M : Type 1} → statement M
 first_spec =
@@ -74,7 +74,7 @@ first_spec =
     invariant-loop
     decreases-loop
     loop-holds
-    has-requires
+    has_requires
     cast-who
     add-who
     mul-who

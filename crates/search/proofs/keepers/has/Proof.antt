@@ -14,5 +14,5 @@ shr-result c = search rules
 returns : tie.Need-returns
 returns c = simp add-sub_cancel
 
-pub has-spec : {M : Type 1} → statement M
-has-spec = tie.close (tie.spec cast-result shr-result returns)
+pub has_spec : {M : Type 1} → statement M
+has_spec = tie.close (tie.spec cast-result shr-result returns)

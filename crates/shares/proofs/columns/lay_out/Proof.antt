@@ -8,15 +8,15 @@ use native.Mathlib.Omega.{arith}
 use lib.ListN.{length, get_or, take, drop}
 use lib.Seq.{length-take-le}
 use Rattle.lists.specs.Listed.{listed}
-use Rattle.shares.specs.Columns.{columnOf, columnsOf}
+use Rattle.shares.specs.Columns.{column_of, columns_of}
 use Rattle.shares.specs.RowLaws.{part-within}
-use Rattle.shares.specs.Laying.{length_part, Laying, laying-first, laying-more, laying-done}
+use Rattle.shares.specs.Laying.{length_part, Laying, laying_first, laying_more, laying_done}
 use borrow.Author.Rules.{rules}
 use Rattle.shares.proofs.columns.lay_out.Statement.{statement}
 use Rattle.shares.proofs.columns.lay_out.Tie as tie
 
 abbrev invariant-loop : tie.invariant-loop
-invariant-loop constants random t columns₀ l j₀ columns j = (j ≤ t) × Laying l (columnOf t constants random) (l * (t + 1)) (j + 1) columns
+invariant-loop constants random t columns₀ l j₀ columns j = (j ≤ t) × Laying l (column_of t constants random) (l * (t + 1)) (j + 1) columns
 
 abbrev decreases-loop : tie.decreases-loop
 decreases-loop constants random t columns₀ l j₀ columns j = t - j
@@ -42,9 +42,9 @@ part-size c =
     let l = length (start c.before).args.constants.now in
     length_part (l * (c.before.loop.j + 1)) l c.before.loop.columns (room c)
 
-laid-column : (t j : ℕ) (constants random : List ℕ) (l : ℕ) (piece : List ℕ) → l ≡ length constants → piece ≡ listed (λ i. get_or random (i * t + j) 0) l → piece ≡ columnOf t constants random (j + 1)
-unfolding columnOf
-laid-column t j constants random l piece size e = rw (e, size, add-one)
+laid_column : (t j : ℕ) (constants random : List ℕ) (l : ℕ) (piece : List ℕ) → l ≡ length constants → piece ≡ listed (λ i. get_or random (i * t + j) 0) l → piece ≡ column_of t constants random (j + 1)
+unfolding column_of
+laid_column t j constants random l piece size e = rw (e, size, add-one)
 
 slice-relend-prefix-copy : tie.Need-slice-relend-prefix-copy invariant-loop decreases-loop
 slice-relend-prefix-copy c = omega (arith, front c)
@@ -56,13 +56,13 @@ copy-requires : tie.Need-copy-requires invariant-loop decreases-loop
 copy-requires c κs = length-take-le _ _ (front c.before)
 
 loop-holds : tie.Need-loop-init invariant-loop decreases-loop
-unfolding columnOf
+unfolding column_of
 loop-holds c =
     let asked = c.before.before.before.before in
     let begun = asked.before.before.before in
     let copied = c.before.before.copy in (
       search rules,
-      laying-first _ _ _ begun.args.columns.now copied.new.1.0 (front asked) begun.requires.1 (ap length copied.ensures) copied.ensures,
+      laying_first _ _ _ begun.args.columns.now copied.new.1.0 (front asked) begun.requires.1 (ap length copied.ensures) copied.ensures,
     )
 
 add_at : tie.Need-overflow-add-at invariant-loop decreases-loop
@@ -102,23 +102,23 @@ loop-again c =
     let j = turn.before.loop.j in
     let column = c.before.before.put-coefficients in (
       search rules,
-      laying-more _ _ _ turn.before.loop.columns (j + 1) column.new.1.1.1.0 turn.before.loop.invariant.1
+      laying_more _ _ _ turn.before.loop.columns (j + 1) column.new.1.1.1.0 turn.before.loop.invariant.1
           (part-within (length args.constants.now) args.t (j + 1) (search rules)) (column.auto.1.1.1.0 ∙ part-size turn)
-          (laid-column args.t j args.constants.now args.random.now _ _ (part-size turn) column.ensures),
+          (laid_column args.t j args.constants.now args.random.now _ _ (part-size turn) column.ensures),
     )
 
 same_length : tie.Need-same-length invariant-loop decreases-loop
 same_length c = c.before.loop.invariant.1.size ∙ sym (start c.before).pre.1
 
 returns : tie.Need-returns invariant-loop decreases-loop
-unfolding columnsOf
+unfolding columns_of
 returns c =
     let args = (start c.before).args in
     let all : c.before.loop.j ≡ args.t = omega arith in
-    laying-done _ _ _ c.before.loop.columns (args.t + 1) (rw all at c.before.loop.invariant.1) refl ∙ rw add-one
+    laying_done _ _ _ c.before.loop.columns (args.t + 1) (rw all at c.before.loop.invariant.1) refl ∙ rw add-one
 
-pub lay-out-spec : {M : Type 1} → statement M
-lay-out-spec =
+pub lay_out_spec : {M : Type 1} → statement M
+lay_out_spec =
     tie.close
     (tie.spec
     invariant-loop

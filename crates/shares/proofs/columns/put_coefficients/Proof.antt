@@ -5,7 +5,7 @@ use mathlib.Core.Path.{refl}
 use native.Mathlib.Omega.{arith}
 use lib.ListN.{length, get_or}
 use Rattle.shares.specs.ColumnLaws.{word-within}
-use Rattle.lists.specs.Filling.{Filling, filling-none, filling-more, filling-done}
+use Rattle.lists.specs.Filling.{Filling, filling_none, filling_more, filling_done}
 use borrow.Author.Rules.{rules}
 use Rattle.shares.proofs.columns.put_coefficients.Statement.{statement}
 use Rattle.shares.proofs.columns.put_coefficients.Tie as tie
@@ -23,7 +23,7 @@ within c =
     rw pre.0 (word-within (length args.column.now) args.t c.before.loop.i args.j (omega arith) pre.1)
 
 loop-holds : tie.Need-loop-init invariant-loop decreases-loop
-loop-holds c = filling-none
+loop-holds c = filling_none
 
 mul-column : tie.Need-overflow-mul-column invariant-loop decreases-loop
 mul-column c = omega (arith, within c)
@@ -50,16 +50,16 @@ loop-less : tie.Need-loop-smaller invariant-loop decreases-loop
 loop-less c = search rules
 
 loop-again : tie.Need-loop-preserved invariant-loop decreases-loop
-loop-again c = filling-more c.before.before.loop.invariant c.before.loop-test.true refl
+loop-again c = filling_more c.before.before.loop.invariant c.before.loop-test.true refl
 
 same_length : tie.Need-same-length invariant-loop decreases-loop
 same_length c = search rules
 
 returns : tie.Need-returns invariant-loop decreases-loop
-returns c = filling-done c.before.loop.invariant c.loop-test.false
+returns c = filling_done c.before.loop.invariant c.loop-test.false
 
-pub put-coefficients-spec : {M : Type 1} → statement M
-put-coefficients-spec =
+pub put_coefficients_spec : {M : Type 1} → statement M
+put_coefficients_spec =
     tie.close
     (tie.spec
     invariant-loop

@@ -6,11 +6,11 @@ use Rattle.shares.proofs.lent.lent_number.Tie as tie
 returns : tie.Need-returns
 returns c = rw (c.before.if1.true, c.if2.true)
 
-returns-2 : tie.Need-returns-2
-returns-2 c = rw (c.before.if1.true, c.if2.false)
+returns_2 : tie.Need-returns-2
+returns_2 c = rw (c.before.if1.true, c.if2.false)
 
-returns-3 : tie.Need-returns-3
-returns-3 c = rw c.if1.false
+returns_3 : tie.Need-returns-3
+returns_3 c = rw c.if1.false
 
-pub lent-number-spec : {M : Type 1} → statement M
-lent-number-spec = tie.close (tie.spec returns returns-2 returns-3)
+pub lent_number_spec : {M : Type 1} → statement M
+lent_number_spec = tie.close (tie.spec returns returns_2 returns_3)

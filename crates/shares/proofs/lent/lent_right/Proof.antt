@@ -15,8 +15,8 @@ mul-result c = let pre = c.before.before.before.requires in omega (arith, mul-le
 returns : tie.Need-returns
 returns c = rw (eq-eqb _ _ c.before.if1.true)
 
-returns-2 : tie.Need-returns-2
-returns-2 c = rw (ne_eqb _ _ c.if1.false)
+returns_2 : tie.Need-returns-2
+returns_2 c = rw (ne_eqb _ _ c.if1.false)
 
-pub lent-right-spec : {M : Type 1} → statement M
-lent-right-spec = tie.close (tie.spec mul-if1 mul-result returns returns-2)
+pub lent_right_spec : {M : Type 1} → statement M
+lent_right_spec = tie.close (tie.spec mul-if1 mul-result returns returns_2)

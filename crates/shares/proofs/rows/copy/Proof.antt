@@ -3,7 +3,7 @@
 use Prim.Native.Nat.{◌-◌}
 use mathlib.Core.Path.{refl}
 use lib.ListN.{length, get_or}
-use Rattle.lists.specs.Filling.{Filling, filling-none, filling-more, filling-copied}
+use Rattle.lists.specs.Filling.{Filling, filling_none, filling_more, filling_copied}
 use borrow.Author.Rules.{rules}
 use Rattle.shares.proofs.rows.copy.Statement.{statement}
 use Rattle.shares.proofs.rows.copy.Tie as tie
@@ -15,7 +15,7 @@ abbrev decreases-loop : tie.decreases-loop
 decreases-loop column row₀ i₀ row i = length row₀ - i
 
 loop-holds : tie.Need-loop-init invariant-loop decreases-loop
-loop-holds c = filling-none
+loop-holds c = filling_none
 
 mul-row : tie.Need-overflow-mul-row invariant-loop decreases-loop
 mul-row c = search rules
@@ -36,13 +36,13 @@ loop-less : tie.Need-loop-smaller invariant-loop decreases-loop
 loop-less c = search rules
 
 loop-again : tie.Need-loop-preserved invariant-loop decreases-loop
-loop-again c = filling-more c.before.before.loop.invariant c.before.loop-test.true refl
+loop-again c = filling_more c.before.before.loop.invariant c.before.loop-test.true refl
 
 same_length : tie.Need-same-length invariant-loop decreases-loop
 same_length c = search rules
 
 returns : tie.Need-returns invariant-loop decreases-loop
-returns c = filling-copied c.before.loop.invariant c.before.before.requires c.loop-test.false
+returns c = filling_copied c.before.loop.invariant c.before.before.requires c.loop-test.false
 
 pub copy_spec : {M : Type 1} → statement M
 copy_spec =

@@ -4,18 +4,18 @@ use Prim.Native.Nat.{◌+◌, ◌-◌, ◌*◌, ◌≤◌}
 use mathlib.Core.Path.{◌≡◌, sym, ap, ◌∙◌}
 use native.Mathlib.Omega.{arith}
 use lib.ListN.{length, drop}
-use Rattle.lists.specs.Below.{below-take, below-drop}
+use Rattle.lists.specs.Below.{below_take, below_drop}
 use Rattle.field.specs.Modulo.{mod257}
-use Rattle.field.specs.Laws.{mod257-field}
-use Rattle.shares.specs.Columns.{valuesFrom}
-use Rattle.shares.specs.RowLaws.{part-within, length-values, values-last, values-more, below-values}
-use Rattle.shares.specs.Laying.{part-is, length_part}
+use Rattle.field.specs.Laws.{mod257_field}
+use Rattle.shares.specs.Columns.{values_from}
+use Rattle.shares.specs.RowLaws.{part-within, length_values, values_last, values_more, below_values}
+use Rattle.shares.specs.Laying.{part_is, length_part}
 use borrow.Author.Rules.{rules}
 use Rattle.shares.proofs.rows.share_row.Statement.{statement}
 use Rattle.shares.proofs.rows.share_row.Tie as tie
 
 abbrev invariant-loop : tie.invariant-loop
-invariant-loop columns t x row₀ l last j₀ row j = (j ≤ t) × (row ≡ valuesFrom mod257 columns l t x j)
+invariant-loop columns t x row₀ l last j₀ row j = (j ≤ t) × (row ≡ values_from mod257 columns l t x j)
 
 abbrev decreases-loop : tie.decreases-loop
 decreases-loop columns t x row₀ l last j₀ row j = j
@@ -62,7 +62,7 @@ loop-holds c =
     let args = first.args in
     let l = length args.row.now in (
       search rules,
-      c.before.before.copy.ensures ∙ part-is (l * args.t) l args.columns.now ∙ values-last mod257 args.columns.now l args.t args.x mod257-field (search rules) first.requires.1.0,
+      c.before.before.copy.ensures ∙ part_is (l * args.t) l args.columns.now ∙ values_last mod257 args.columns.now l args.t args.x mod257_field (search rules) first.requires.1.0,
     )
 
 sub-j : tie.Need-overflow-sub-j invariant-loop decreases-loop
@@ -94,10 +94,10 @@ step-requires c κs =
     let l = length args.row.now in
     let columns = args.columns.now in
     let values = turn.before.loop.invariant.1 in (
-      ap length values ∙ length-values mod257 columns l args.t args.x j ∙ sym (length_part (l * (j - 1)) l columns (room turn)),
+      ap length values ∙ length_values mod257 columns l args.t args.x j ∙ sym (length_part (l * (j - 1)) l columns (room turn)),
       (
-        rw values (below-values mod257 columns l args.t args.x mod257-field j),
-        (below-take 257 (l * (j - 1) + l - l * (j - 1)) (drop (l * (j - 1)) columns) (below-drop 257 (l * (j - 1)) columns (start turn.before).pre.1.0), (start turn.before).pre.1.1),
+        rw values (below_values mod257 columns l args.t args.x mod257_field j),
+        (below_take 257 (l * (j - 1) + l - l * (j - 1)) (drop (l * (j - 1)) columns) (below_drop 257 (l * (j - 1)) columns (start turn.before).pre.1.0), (start turn.before).pre.1.1),
       ),
     )
 
@@ -113,19 +113,19 @@ loop-again c =
     let columns = args.columns.now in (
       search rules,
       c.before.before.step.ensures
-          ∙ values-more mod257 columns l args.t args.x j turn.before.loop.row _ (omega arith) (omega arith) turn.before.loop.invariant.1 (part-is (l * (j - 1)) l columns),
+          ∙ values_more mod257 columns l args.t args.x j turn.before.loop.row _ (omega arith) (omega arith) turn.before.loop.invariant.1 (part_is (l * (j - 1)) l columns),
     )
 
 same_length : tie.Need-same-length invariant-loop decreases-loop
 same_length c =
     let args = (start c.before).args in
-    ap length c.before.loop.invariant.1 ∙ length-values mod257 args.columns.now (length args.row.now) args.t args.x c.before.loop.j
+    ap length c.before.loop.invariant.1 ∙ length_values mod257 args.columns.now (length args.row.now) args.t args.x c.before.loop.j
 
 returns : tie.Need-returns invariant-loop decreases-loop
 returns c = let done : c.before.loop.j ≡ 0 = omega arith in rw done at c.before.loop.invariant.1
 
-pub share-row-spec : {M : Type 1} → statement M
-share-row-spec =
+pub share_row_spec : {M : Type 1} → statement M
+share_row_spec =
     tie.close
     (tie.spec
     invariant-loop

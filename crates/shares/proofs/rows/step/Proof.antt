@@ -6,7 +6,7 @@ use native.Mathlib.Nat.{mul-le-mul}
 use native.Mathlib.Omega.{arith}
 use lib.ListN.{length, get_or}
 use Rattle.field.specs.Modulo.{mod257}
-use Rattle.lists.specs.Filling.{Filling, filling-none, filling-more, filling-ahead, filling-done}
+use Rattle.lists.specs.Filling.{Filling, filling_none, filling_more, filling_ahead, filling_done}
 use borrow.Author.Rules.{rules}
 use Rattle.shares.proofs.rows.step.Statement.{statement}
 use Rattle.shares.proofs.rows.step.Tie as tie
@@ -20,7 +20,7 @@ decreases-loop row₀ x column i₀ row i = length row₀ - i
 -- a word of the row has yet to be changed when it is read, so it is a field word
 ahead : (c : tie.In-loop invariant-loop decreases-loop)
     → get_or c.before.loop.row c.before.loop.i 0 ≡ get_or c.before.before.args.row.now c.before.loop.i 0
-ahead c = filling-ahead c.before.loop.invariant c.loop-test.true
+ahead c = filling_ahead c.before.loop.invariant c.loop-test.true
 
 product : (c : tie.In-loop invariant-loop decreases-loop) → get_or c.before.loop.row c.before.loop.i 0 * c.before.before.args.x ≤ 256 * 16
 product c =
@@ -30,7 +30,7 @@ horner : {a b : ℕ} (x c : ℕ) → a ≡ b → (a * x + c) % 257 ≡ mod257.ad
 horner x c e = rw e (omega arith)
 
 loop-holds : tie.Need-loop-init invariant-loop decreases-loop
-loop-holds c = filling-none
+loop-holds c = filling_none
 
 mul-row : tie.Need-overflow-mul-row invariant-loop decreases-loop
 mul-row c = search rules
@@ -65,13 +65,13 @@ loop-less c = search rules
 loop-again : tie.Need-loop-preserved invariant-loop decreases-loop
 loop-again c =
     let turn = c.before.before in
-    filling-more turn.before.loop.invariant turn.loop-test.true (horner turn.before.before.args.x (get_or turn.before.before.args.column.now turn.before.loop.i 0) (ahead turn))
+    filling_more turn.before.loop.invariant turn.loop-test.true (horner turn.before.before.args.x (get_or turn.before.before.args.column.now turn.before.loop.i 0) (ahead turn))
 
 same_length : tie.Need-same-length invariant-loop decreases-loop
 same_length c = search rules
 
 returns : tie.Need-returns invariant-loop decreases-loop
-returns c = filling-done c.before.loop.invariant c.loop-test.false
+returns c = filling_done c.before.loop.invariant c.loop-test.false
 
 pub step_spec : {M : Type 1} → statement M
 step_spec =

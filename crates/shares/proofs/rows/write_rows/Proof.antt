@@ -7,14 +7,14 @@ use native.Mathlib.Numerals.{add-one}
 use native.Mathlib.Omega.{arith}
 use lib.ListN.{length, take, drop}
 use Rattle.field.specs.Modulo.{mod257}
-use Rattle.shares.specs.Columns.{valuesFrom}
-use Rattle.shares.specs.Laying.{length_part, Laying, laying-none, laying-more, laying-done}
+use Rattle.shares.specs.Columns.{values_from}
+use Rattle.shares.specs.Laying.{length_part, Laying, laying_none, laying_more, laying_done}
 use borrow.Author.Rules.{rules}
 use Rattle.shares.proofs.rows.write_rows.Statement.{statement}
 use Rattle.shares.proofs.rows.write_rows.Tie as tie
 
 abbrev invariant-loop : tie.invariant-loop
-invariant-loop columns t n l rows₀ k₀ rows k = (k ≤ n) × Laying l (λ i. valuesFrom mod257 columns l t (suc i) 0) (l * n) k rows
+invariant-loop columns t n l rows₀ k₀ rows k = (k ≤ n) × Laying l (λ i. values_from mod257 columns l t (suc i) 0) (l * n) k rows
 
 abbrev decreases-loop : tie.decreases-loop
 decreases-loop columns t n l rows₀ k₀ rows k = n - k
@@ -39,7 +39,7 @@ row-size : (c : tie.In-loop invariant-loop decreases-loop)
 row-size c = let l = (start c.before).args.l in length_part (l * c.before.loop.k) l c.before.loop.rows (room c)
 
 loop-holds : tie.Need-loop-init invariant-loop decreases-loop
-loop-holds c = (search rules, laying-none _ _ _ _ c.before.before.requires.1.1.1)
+loop-holds c = (search rules, laying_none _ _ _ _ c.before.before.requires.1.1.1)
 
 mul_at : tie.Need-overflow-mul-at invariant-loop decreases-loop
 mul_at c = omega (arith, room c)
@@ -85,7 +85,7 @@ loop-again c =
     let row = c.before.before.share-row in
     let keeper : narrowed.narrow.result ≡ suc here.k = narrowed.narrow.ensures ∙ add-one here.k in (
       search rules,
-      laying-more _ _ _ here.rows here.k row.new.1.1.1.0 here.invariant.1 (within turn) (row.auto.1.1.1.0 ∙ row-size turn)
+      laying_more _ _ _ here.rows here.k row.new.1.1.1.0 here.invariant.1 (within turn) (row.auto.1.1.1.0 ∙ row-size turn)
           (rw (row-size turn, keeper) at row.ensures),
     )
 
@@ -96,10 +96,10 @@ returns : tie.Need-returns invariant-loop decreases-loop
 returns c =
     let args = (start c.before).args in
     let all : c.before.loop.k ≡ args.n = omega arith in
-    laying-done _ _ _ c.before.loop.rows args.n (rw all at c.before.loop.invariant.1) refl
+    laying_done _ _ _ c.before.loop.rows args.n (rw all at c.before.loop.invariant.1) refl
 
-pub write-rows-spec : {M : Type 1} → statement M
-write-rows-spec =
+pub write_rows_spec : {M : Type 1} → statement M
+write_rows_spec =
     tie.close
     (tie.spec
     invariant-loop

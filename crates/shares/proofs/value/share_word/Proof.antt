@@ -7,7 +7,7 @@ use native.Mathlib.Omega.{arith}
 use borrow.Author.Rules.{rules}
 use Rattle.algebra.specs.Poly.{eval}
 use Rattle.field.specs.Modulo.{mod257}
-use Rattle.shares.specs.Horner.{horner-none, horner-step, horner-last}
+use Rattle.shares.specs.Horner.{horner_none, horner_step, horner_last}
 use Rattle.shares.proofs.value.share_word.Statement.{statement}
 use Rattle.shares.proofs.value.share_word.Tie as tie
 
@@ -18,7 +18,7 @@ abbrev decreases-loop : tie.decreases-loop
 decreases-loop constant coefficients x value₀ i₀ value i = i
 
 loop-holds : tie.Need-loop-init invariant-loop decreases-loop
-loop-holds c = (search rules, sym (horner-none mod257 c.before.args.coefficients.now c.before.args.x))
+loop-holds c = (search rules, sym (horner_none mod257 c.before.args.coefficients.now c.before.args.x))
 
 sub-i : tie.Need-overflow-sub-i invariant-loop decreases-loop
 sub-i c = search rules
@@ -44,7 +44,7 @@ loop-again c =
     let here = turn.before.loop in
     let args = turn.before.before.before.args in (
       search rules,
-      horner-step mod257 args.coefficients.now args.x here.i _ _ _ here.invariant.1 c.before.mul.ensures (omega arith) here.invariant.0 c.add.ensures,
+      horner_step mod257 args.coefficients.now args.x here.i _ _ _ here.invariant.1 c.before.mul.ensures (omega arith) here.invariant.0 c.add.ensures,
     )
 
 mul-requires-2 : tie.Need-mul-requires-2 invariant-loop decreases-loop
@@ -57,10 +57,10 @@ returns : tie.Need-returns invariant-loop decreases-loop
 returns c =
     let left = c.before.before in
     let args = left.before.before.before.args in
-    horner-last mod257 args.coefficients.now args.x left.before.loop.i _ _ _ left.before.loop.invariant.1 c.before.mul2.ensures args.constant (omega arith) c.add2.ensures
+    horner_last mod257 args.coefficients.now args.x left.before.loop.i _ _ _ left.before.loop.invariant.1 c.before.mul2.ensures args.constant (omega arith) c.add2.ensures
 
-pub share-word-spec : {M : Type 1} → statement M
-share-word-spec =
+pub share_word_spec : {M : Type 1} → statement M
+share_word_spec =
     tie.close
     (tie.spec
     invariant-loop

@@ -22,8 +22,8 @@ within-requires-2 c κs = search rules
 returns : tie.Need-returns
 returns c = second c.before.before.within.ensures c.before.if1.true c.within2.ensures
 
-returns-2 : tie.Need-returns-2
-returns-2 c = first _ c.before.within.ensures c.if1.false
+returns_2 : tie.Need-returns-2
+returns_2 c = first _ c.before.within.ensures c.if1.false
 
-pub both-within-spec : {M : Type 1} → statement M
-both-within-spec = tie.close (tie.spec within-requires within-requires-2 returns returns-2)
+pub both_within_spec : {M : Type 1} → statement M
+both_within_spec = tie.close (tie.spec within-requires within-requires-2 returns returns_2)

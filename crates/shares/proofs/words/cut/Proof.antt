@@ -5,10 +5,10 @@ use mathlib.Core.Path.{◌≡◌, sym, ◌∙◌}
 use native.Mathlib.Omega.{arith}
 use lib.ListN.{length}
 use lib.Seq.{length-take-le}
-use Rattle.shares.specs.ColumnLaws.{columns-most}
+use Rattle.shares.specs.ColumnLaws.{columns_most}
 use Rattle.shares.specs.Fills.{fills, refuses}
-use Rattle.shares.specs.Words.{wordsNumber}
-use Rattle.shares.specs.WordsLaws.{WordsFacts, accepted-words}
+use Rattle.shares.specs.Words.{words_number}
+use Rattle.shares.specs.WordsLaws.{WordsFacts, accepted_words}
 use borrow.Author.Rules.{rules}
 use Rattle.shares.proofs.words.cut.Statement.{statement}
 use Rattle.shares.proofs.words.cut.Tie as tie
@@ -16,14 +16,14 @@ use Rattle.shares.proofs.words.cut.Tie as tie
 abbrev start : tie.After-refusal → tie.Start
 start c = c.before.before.before.before.before
 
-accepted : (c : tie.Then1) → let args = (start c.before).args in wordsNumber args.o args.constants.now args.random.now args.rows.now ≡ 0
+accepted : (c : tie.Then1) → let args = (start c.before).args in words_number args.o args.constants.now args.random.now args.rows.now ≡ 0
 accepted c = sym c.before.refusal.ensures ∙ c.if1.true
 
 facts : (c : tie.Then1) → let args = (start c.before).args in WordsFacts args.o args.constants.now args.random.now args.rows.now
-facts c = accepted-words _ _ _ _ (accepted c)
+facts c = accepted_words _ _ _ _ (accepted c)
 
 most : (c : tie.Then1) → let args = (start c.before).args in length args.constants.now * (args.o.t + 1) ≤ 7616
-most c = let known = facts c in columns-most _ _ known.length_most known.of-order.t-most
+most c = let known = facts c in columns_most _ _ known.length_most known.of_order.t_most
 
 refusal-requires : tie.Need-refusal-requires
 refusal-requires c κs = search rules
@@ -52,11 +52,11 @@ returns c =
     let then = filled.before.before.before.before in
     fills then.before.refusal.ensures then.if1.true filled.fill.ensures
 
-same-length-2 : tie.Need-same-length-2
-same-length-2 c = search rules
+same_length_2 : tie.Need-same-length-2
+same_length_2 c = search rules
 
-returns-2 : tie.Need-returns-2
-returns-2 c = refuses c.before.refusal.ensures c.if1.false
+returns_2 : tie.Need-returns-2
+returns_2 c = refuses c.before.refusal.ensures c.if1.false
 
 pub cut_spec : {M : Type 1} → statement M
 cut_spec =
@@ -70,5 +70,5 @@ cut_spec =
     fill-requires
     same_length
     returns
-    same-length-2
-    returns-2)
+    same_length_2
+    returns_2)

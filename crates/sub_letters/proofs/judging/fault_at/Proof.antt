@@ -4,11 +4,11 @@ use mathlib.Core.Path.{◌≡◌, ◌∙◌}
 use native.Mathlib.Numerals.{add-one}
 use borrow.Author.Rules.{rules}
 use Rattle.format.specs.declared.reader.Reading.TheVariants.{Good, Bad}
-use Rattle.sub_letters.specs.Subs.{subReading}
+use Rattle.sub_letters.specs.Subs.{sub_reading}
 use Rattle.sub_letters.proofs.judging.fault_at.Statement.{statement}
 use Rattle.sub_letters.proofs.judging.fault_at.Tie as tie
 
-read : (c : tie.After-read-as) → c.read_as.result ≡ subReading c.before.before.before.args.letters.now c.before.before.before.args.k
+read : (c : tie.After-read-as) → c.read_as.result ≡ sub_reading c.before.before.before.args.letters.now c.before.before.before.args.k
 read c = c.read_as.ensures ∙ rw (c.before.slot_of.ensures, add-one)
 
 add-slot-of : tie.Need-overflow-add-slot-of
@@ -30,18 +30,18 @@ returns : tie.Need-returns
 returns c =
     let said = read c.before.before in
     let a = c.before.before.before.before.before.args in
-    let good : subReading a.letters.now a.k ≡ Good c.enum_told.given.0.0 = cc in
+    let good : sub_reading a.letters.now a.k ≡ Good c.enum_told.given.0.0 = cc in
     rw good
 
-returns-2 : tie.Need-returns-2
-returns-2 c =
+returns_2 : tie.Need-returns-2
+returns_2 c =
     let said = read c.before.before.before in
     let a = c.before.before.before.before.before.before.args in
-    let bad : subReading a.letters.now a.k ≡ Bad c.before.number.given.0.0 c.before.number.given.0.1.0 = cc in
+    let bad : sub_reading a.letters.now a.k ≡ Bad c.before.number.given.0.0 c.before.number.given.0.1.0 = cc in
     rw bad
 
-pub fault-at-spec : {M : Type 1} → statement M
-fault-at-spec =
+pub fault_at_spec : {M : Type 1} → statement M
+fault_at_spec =
     tie.close
     (tie.spec
     add-slot-of
@@ -50,4 +50,4 @@ fault-at-spec =
     enum_told
     enum-known-number
     returns
-    returns-2)
+    returns_2)

@@ -14,11 +14,11 @@ mul-if2 c = search rules
 returns : tie.Need-returns
 returns c = search chain
 
-returns-2 : tie.Need-returns-2
-returns-2 c = search chain
+returns_2 : tie.Need-returns-2
+returns_2 c = search chain
 
-returns-3 : tie.Need-returns-3
-returns-3 c = search chain
+returns_3 : tie.Need-returns-3
+returns_3 c = search chain
 
-pub is-lent-spec : {M : Type 1} → statement M
-is-lent-spec = tie.close (tie.spec add-many mul-if2 returns returns-2 returns-3)
+pub is_lent_spec : {M : Type 1} → statement M
+is_lent_spec = tie.close (tie.spec add-many mul-if2 returns returns_2 returns_3)

@@ -14,9 +14,9 @@ has-keeper-requires c κs = search rules
 returns : tie.Need-returns
 returns c = search chain
 
-returns-2 : tie.Need-returns-2
-returns-2 c = search chain
+returns_2 : tie.Need-returns-2
+returns_2 c = search chain
 
-pub keepers-right-spec : {M : Type 1} → statement M
-keepers-right-spec =
-    tie.close (tie.spec all-keepers-requires has-keeper-requires returns returns-2)
+pub keepers_right_spec : {M : Type 1} → statement M
+keepers_right_spec =
+    tie.close (tie.spec all-keepers-requires has-keeper-requires returns returns_2)

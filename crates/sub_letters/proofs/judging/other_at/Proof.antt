@@ -4,15 +4,15 @@ use mathlib.Core.Path.{◌≡◌, ◌∙◌}
 use native.Mathlib.Omega.{arith}
 use native.Mathlib.Numerals.{add-one}
 use borrow.Author.Rules.{rules}
-use Rattle.header.specs.Head.{sameHead}
-use Rattle.tray.specs.Tray.{headFor}
-use Rattle.sub_letters.specs.Subs.{subHead}
-use Rattle.sub_letters.specs.SubLaws.{slot-size}
+use Rattle.header.specs.Head.{same_head}
+use Rattle.tray.specs.Tray.{head_for}
+use Rattle.sub_letters.specs.Subs.{sub_head}
+use Rattle.sub_letters.specs.SubLaws.{slot_size}
 use Rattle.sub_letters.proofs.judging.other_at.Statement.{statement}
 use Rattle.sub_letters.proofs.judging.other_at.Tie as tie
 
 matched : (c : tie.After-same) → let a = c.before.before.before.before.before.before.args in
-    c.same.result ≡ sameHead (subHead a.letters.now a.k) (headFor a.m.told a.m.stamp a.m.length a.keeper)
+    c.same.result ≡ same_head (sub_head a.letters.now a.k) (head_for a.m.told a.m.stamp a.m.length a.keeper)
 matched c =
     let headed = c.before in
     let said = headed.before in
@@ -26,7 +26,7 @@ slot-of-requires : tie.Need-slot-of-requires
 slot-of-requires c κs = search rules
 
 block-at-requires : tie.Need-block-at-requires
-block-at-requires c κs = (slot-size c.slot_of.ensures c.before.before.requires, omega arith)
+block-at-requires c κs = (slot_size c.slot_of.ensures c.before.before.requires, omega arith)
 
 head-of-requires : tie.Need-head-of-requires
 head-of-requires c κs = search rules
@@ -40,11 +40,11 @@ same-requires c κs = search rules
 returns : tie.Need-returns
 returns c = rw (← matched c.before, c.if1.true)
 
-returns-2 : tie.Need-returns-2
-returns-2 c = rw (← matched c.before, c.if1.false)
+returns_2 : tie.Need-returns-2
+returns_2 c = rw (← matched c.before, c.if1.false)
 
-pub other-at-spec : {M : Type 1} → statement M
-other-at-spec =
+pub other_at_spec : {M : Type 1} → statement M
+other_at_spec =
     tie.close
     (tie.spec
     add-slot-of
@@ -54,4 +54,4 @@ other-at-spec =
     head-for-requires
     same-requires
     returns
-    returns-2)
+    returns_2)

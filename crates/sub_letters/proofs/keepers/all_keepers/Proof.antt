@@ -6,14 +6,14 @@ use native.Mathlib.Omega.{arith}
 use lib.ListN.{length, get_or}
 use borrow.Author.Rules.{rules}
 use borrow.Author.Tests.{not-true, not-false}
-use Rattle.lists.specs.AllToLaws.{all-to-stops, PassedTo, passed_none, passed-next, passed-all}
-use Rattle.header.specs.Order.{lawfulKeeper}
-use Rattle.sub_letters.specs.Keepers.{allKeepers}
+use Rattle.lists.specs.AllToLaws.{all_to_stops, PassedTo, passed_none, passed_next, passed_all}
+use Rattle.header.specs.Order.{lawful_keeper}
+use Rattle.sub_letters.specs.Keepers.{all_keepers}
 use Rattle.sub_letters.proofs.keepers.all_keepers.Statement.{statement}
 use Rattle.sub_letters.proofs.keepers.all_keepers.Tie as tie
 
 abbrev invariant-loop : tie.invariant-loop
-invariant-loop o keepers i₀ i = PassedTo (λ k. lawfulKeeper o (get_or keepers k 0)) (length keepers) i
+invariant-loop o keepers i₀ i = PassedTo (λ k. lawful_keeper o (get_or keepers k 0)) (length keepers) i
 
 abbrev decreases-loop : tie.decreases-loop
 decreases-loop o keepers i₀ i = length keepers - i
@@ -34,9 +34,9 @@ has-keeper-requires : tie.Need-has-keeper-requires invariant-loop decreases-loop
 has-keeper-requires c κs = search rules
 
 returns : tie.Need-returns invariant-loop decreases-loop
-unfolding allKeepers
+unfolding all_keepers
 returns c =
-    sym (all-to-stops _ _ _ c.before.before.before.loop-test.true (sym c.before.has-keeper.ensures ∙ not-true _ c.if1.true))
+    sym (all_to_stops _ _ _ c.before.before.before.loop-test.true (sym c.before.has-keeper.ensures ∙ not-true _ c.if1.true))
 
 add-i : tie.Need-overflow-add-i invariant-loop decreases-loop
 add-i c = search rules
@@ -46,14 +46,14 @@ loop-less c = search rules
 
 loop-again : tie.Need-loop-preserved invariant-loop decreases-loop
 loop-again c =
-    passed-next _ c.before.before.before.before.loop.invariant c.before.before.before.loop-test.true (sym c.before.has-keeper.ensures ∙ not-false _ c.if1.false)
+    passed_next _ c.before.before.before.before.loop.invariant c.before.before.before.loop-test.true (sym c.before.has-keeper.ensures ∙ not-false _ c.if1.false)
 
-returns-2 : tie.Need-returns-2 invariant-loop decreases-loop
-unfolding allKeepers
-returns-2 c = sym (passed-all _ c.before.loop.invariant c.loop-test.false)
+returns_2 : tie.Need-returns-2 invariant-loop decreases-loop
+unfolding all_keepers
+returns_2 c = sym (passed_all _ c.before.loop.invariant c.loop-test.false)
 
-pub all-keepers-spec : {M : Type 1} → statement M
-all-keepers-spec =
+pub all_keepers_spec : {M : Type 1} → statement M
+all_keepers_spec =
     tie.close
     (tie.spec
     invariant-loop
@@ -67,4 +67,4 @@ all-keepers-spec =
     add-i
     loop-less
     loop-again
-    returns-2)
+    returns_2)

@@ -5,13 +5,13 @@ use mathlib.Core.Path.{sym, ap, ◌∙◌}
 use mathlib.Core.Bool.{not}
 use lib.ListN.{length, get_or}
 use borrow.Author.Rules.{rules}
-use Rattle.lists.specs.AllToLaws.{all-to-stops, PassedTo, passed_none, passed-next, passed-all}
-use Rattle.sub_letters.specs.Keepers.{noneIs, eachIn}
+use Rattle.lists.specs.AllToLaws.{all_to_stops, PassedTo, passed_none, passed_next, passed_all}
+use Rattle.sub_letters.specs.Keepers.{none_is, each_in}
 use Rattle.sub_letters.proofs.keepers.are_among.Statement.{statement}
 use Rattle.sub_letters.proofs.keepers.are_among.Tie as tie
 
 abbrev invariant-loop : tie.invariant-loop
-invariant-loop xs ys i₀ i = PassedTo (λ k. not (noneIs (get_or xs k 0) ys (length ys))) (length xs) i
+invariant-loop xs ys i₀ i = PassedTo (λ k. not (none_is (get_or xs k 0) ys (length ys))) (length xs) i
 
 abbrev decreases-loop : tie.decreases-loop
 decreases-loop xs ys i₀ i = length xs - i
@@ -29,8 +29,8 @@ none-is-requires : tie.Need-none-is-requires invariant-loop decreases-loop
 none-is-requires c κs = search rules
 
 returns : tie.Need-returns invariant-loop decreases-loop
-unfolding eachIn
-returns c = sym (all-to-stops _ _ _ c.before.before.before.loop-test.true (ap not (sym c.before.none-is.ensures ∙ c.if1.true)))
+unfolding each_in
+returns c = sym (all_to_stops _ _ _ c.before.before.before.loop-test.true (ap not (sym c.before.none-is.ensures ∙ c.if1.true)))
 
 add-i : tie.Need-overflow-add-i invariant-loop decreases-loop
 add-i c = search rules
@@ -40,14 +40,14 @@ loop-less c = search rules
 
 loop-again : tie.Need-loop-preserved invariant-loop decreases-loop
 loop-again c =
-    passed-next _ c.before.before.before.before.loop.invariant c.before.before.before.loop-test.true (ap not (sym c.before.none-is.ensures ∙ c.if1.false))
+    passed_next _ c.before.before.before.before.loop.invariant c.before.before.before.loop-test.true (ap not (sym c.before.none-is.ensures ∙ c.if1.false))
 
-returns-2 : tie.Need-returns-2 invariant-loop decreases-loop
-unfolding eachIn
-returns-2 c = sym (passed-all _ c.before.loop.invariant c.loop-test.false)
+returns_2 : tie.Need-returns-2 invariant-loop decreases-loop
+unfolding each_in
+returns_2 c = sym (passed_all _ c.before.loop.invariant c.loop-test.false)
 
-pub are-among-spec : {M : Type 1} → statement M
-are-among-spec =
+pub are_among_spec : {M : Type 1} → statement M
+are_among_spec =
     tie.close
     (tie.spec
     invariant-loop
@@ -60,4 +60,4 @@ are-among-spec =
     add-i
     loop-less
     loop-again
-    returns-2)
+    returns_2)

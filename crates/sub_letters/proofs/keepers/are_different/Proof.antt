@@ -5,13 +5,13 @@ use mathlib.Core.Path.{sym, ◌∙◌}
 use lib.ListN.{length, get_or}
 use borrow.Author.Rules.{rules}
 use borrow.Author.Tests.{not-true, not-false}
-use Rattle.lists.specs.AllToLaws.{all-to-stops, PassedTo, passed_none, passed-next, passed-all}
-use Rattle.sub_letters.specs.Keepers.{noneIs, differ}
+use Rattle.lists.specs.AllToLaws.{all_to_stops, PassedTo, passed_none, passed_next, passed_all}
+use Rattle.sub_letters.specs.Keepers.{none_is, differ}
 use Rattle.sub_letters.proofs.keepers.are_different.Statement.{statement}
 use Rattle.sub_letters.proofs.keepers.are_different.Tie as tie
 
 abbrev invariant-loop : tie.invariant-loop
-invariant-loop xs i₀ i = PassedTo (λ k. noneIs (get_or xs k 0) xs k) (length xs) i
+invariant-loop xs i₀ i = PassedTo (λ k. none_is (get_or xs k 0) xs k) (length xs) i
 
 abbrev decreases-loop : tie.decreases-loop
 decreases-loop xs i₀ i = length xs - i
@@ -30,7 +30,7 @@ none-is-requires c κs = search rules
 
 returns : tie.Need-returns invariant-loop decreases-loop
 unfolding differ
-returns c = sym (all-to-stops _ _ _ c.before.before.before.loop-test.true (sym c.before.none-is.ensures ∙ not-true _ c.if1.true))
+returns c = sym (all_to_stops _ _ _ c.before.before.before.loop-test.true (sym c.before.none-is.ensures ∙ not-true _ c.if1.true))
 
 add-i : tie.Need-overflow-add-i invariant-loop decreases-loop
 add-i c = search rules
@@ -40,14 +40,14 @@ loop-less c = search rules
 
 loop-again : tie.Need-loop-preserved invariant-loop decreases-loop
 loop-again c =
-    passed-next _ c.before.before.before.before.loop.invariant c.before.before.before.loop-test.true (sym c.before.none-is.ensures ∙ not-false _ c.if1.false)
+    passed_next _ c.before.before.before.before.loop.invariant c.before.before.before.loop-test.true (sym c.before.none-is.ensures ∙ not-false _ c.if1.false)
 
-returns-2 : tie.Need-returns-2 invariant-loop decreases-loop
+returns_2 : tie.Need-returns-2 invariant-loop decreases-loop
 unfolding differ
-returns-2 c = sym (passed-all _ c.before.loop.invariant c.loop-test.false)
+returns_2 c = sym (passed_all _ c.before.loop.invariant c.loop-test.false)
 
-pub are-different-spec : {M : Type 1} → statement M
-are-different-spec =
+pub are_different_spec : {M : Type 1} → statement M
+are_different_spec =
     tie.close
     (tie.spec
     invariant-loop
@@ -60,4 +60,4 @@ are-different-spec =
     add-i
     loop-less
     loop-again
-    returns-2)
+    returns_2)

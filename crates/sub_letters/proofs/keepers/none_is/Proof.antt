@@ -7,8 +7,8 @@ use lib.Dec.{eqb}
 use lib.ListN.{get_or}
 use borrow.Author.Rules.{rules}
 use borrow.Author.Tests.{eq-eqb, ne_eqb}
-use Rattle.lists.specs.AllToLaws.{all-to-stops, PassedTo, passed_none, passed-next, passed-all}
-use Rattle.sub_letters.specs.Keepers.{noneIs}
+use Rattle.lists.specs.AllToLaws.{all_to_stops, PassedTo, passed_none, passed_next, passed_all}
+use Rattle.sub_letters.specs.Keepers.{none_is}
 use Rattle.sub_letters.proofs.keepers.none_is.Statement.{statement}
 use Rattle.sub_letters.proofs.keepers.none_is.Tie as tie
 
@@ -28,8 +28,8 @@ shared-slice-read-if1 : tie.Need-shared-slice-read-if1 invariant-loop decreases-
 shared-slice-read-if1 c = search rules
 
 returns : tie.Need-returns invariant-loop decreases-loop
-unfolding noneIs
-returns c = sym (all-to-stops _ _ _ c.before.before.loop-test.true (ap not (eq-eqb _ _ c.if1.true)))
+unfolding none_is
+returns c = sym (all_to_stops _ _ _ c.before.before.loop-test.true (ap not (eq-eqb _ _ c.if1.true)))
 
 add-i : tie.Need-overflow-add-i invariant-loop decreases-loop
 add-i c = search rules
@@ -38,14 +38,14 @@ loop-less : tie.Need-loop-smaller invariant-loop decreases-loop
 loop-less c = search rules
 
 loop-again : tie.Need-loop-preserved invariant-loop decreases-loop
-loop-again c = passed-next _ c.before.before.before.loop.invariant c.before.before.loop-test.true (ap not (ne_eqb _ _ c.if1.false))
+loop-again c = passed_next _ c.before.before.before.loop.invariant c.before.before.loop-test.true (ap not (ne_eqb _ _ c.if1.false))
 
-returns-2 : tie.Need-returns-2 invariant-loop decreases-loop
-unfolding noneIs
-returns-2 c = sym (passed-all _ c.before.loop.invariant c.loop-test.false)
+returns_2 : tie.Need-returns-2 invariant-loop decreases-loop
+unfolding none_is
+returns_2 c = sym (passed_all _ c.before.loop.invariant c.loop-test.false)
 
-pub none-is-spec : {M : Type 1} → statement M
-none-is-spec =
+pub none_is_spec : {M : Type 1} → statement M
+none_is_spec =
     tie.close
     (tie.spec
     invariant-loop
@@ -57,4 +57,4 @@ none-is-spec =
     add-i
     loop-less
     loop-again
-    returns-2)
+    returns_2)

@@ -5,7 +5,7 @@ use mathlib.Core.Path.{refl}
 use native.Mathlib.Omega.{arith}
 use lib.ListN.{length, get_or}
 use borrow.Author.Rules.{rules}
-use Rattle.lists.specs.Filling.{Filling, filling-none, filling-more, filling-copied}
+use Rattle.lists.specs.Filling.{Filling, filling_none, filling_more, filling_copied}
 use Rattle.sub_letters.proofs.keepers.put_keepers.Statement.{statement}
 use Rattle.sub_letters.proofs.keepers.put_keepers.Tie as tie
 
@@ -16,7 +16,7 @@ abbrev decreases-loop : tie.decreases-loop
 decreases-loop keepers row₀ i₀ row i = length row₀ - i
 
 loop-holds : tie.Need-loop-init invariant-loop decreases-loop
-loop-holds c = filling-none
+loop-holds c = filling_none
 
 mul-row : tie.Need-overflow-mul-row invariant-loop decreases-loop
 mul-row c = search rules
@@ -40,16 +40,16 @@ loop-less : tie.Need-loop-smaller invariant-loop decreases-loop
 loop-less c = search rules
 
 loop-again : tie.Need-loop-preserved invariant-loop decreases-loop
-loop-again c = filling-more c.before.before.loop.invariant c.before.loop-test.true refl
+loop-again c = filling_more c.before.before.loop.invariant c.before.loop-test.true refl
 
 same_length : tie.Need-same-length invariant-loop decreases-loop
 same_length c = search rules
 
 returns : tie.Need-returns invariant-loop decreases-loop
-returns c = filling-copied c.before.loop.invariant c.before.before.requires.0 c.loop-test.false
+returns c = filling_copied c.before.loop.invariant c.before.before.requires.0 c.loop-test.false
 
-pub put-keepers-spec : {M : Type 1} → statement M
-put-keepers-spec =
+pub put_keepers_spec : {M : Type 1} → statement M
+put_keepers_spec =
     tie.close
     (tie.spec
     invariant-loop

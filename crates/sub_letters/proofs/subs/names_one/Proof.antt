@@ -6,13 +6,13 @@ use native.Mathlib.Omega.{arith}
 use lib.Dec.{eqb}
 use borrow.Author.Rules.{rules}
 use borrow.Author.Tests.{eq-eqb, ne_eqb}
-use Rattle.lists.specs.AllToLaws.{all-to-stops, PassedTo, passed_none, passed-next, passed-all}
-use Rattle.sub_letters.specs.Subs.{fromAt}
+use Rattle.lists.specs.AllToLaws.{all_to_stops, PassedTo, passed_none, passed_next, passed_all}
+use Rattle.sub_letters.specs.Subs.{from_at}
 use Rattle.sub_letters.proofs.subs.names_one.Statement.{statement}
 use Rattle.sub_letters.proofs.subs.names_one.Tie as tie
 
 abbrev invariant-loop : tie.invariant-loop
-invariant-loop letters k count first p₀ p = PassedTo (λ q. eqb (fromAt letters k q) (fromAt letters k 0)) count p
+invariant-loop letters k count first p₀ p = PassedTo (λ q. eqb (from_at letters k q) (from_at letters k 0)) count p
 
 abbrev decreases-loop : tie.decreases-loop
 decreases-loop letters k count first p₀ p = count - p
@@ -29,7 +29,7 @@ from-at-requires-2 c κs = (c.before.before.before.before.requires.0, omega arit
 returns : tie.Need-returns invariant-loop decreases-loop
 returns c =
     let first = c.before.before.before.before.from_at.ensures in
-    sym (all-to-stops _ _ _ c.before.before.loop-test.true (ne_eqb _ _ (λ e. c.if1.true (c.before.from-at2.ensures ∙ e ∙ sym first))))
+    sym (all_to_stops _ _ _ c.before.before.loop-test.true (ne_eqb _ _ (λ e. c.if1.true (c.before.from-at2.ensures ∙ e ∙ sym first))))
 
 add-p : tie.Need-overflow-add-p invariant-loop decreases-loop
 add-p c = search rules
@@ -41,13 +41,13 @@ loop-again : tie.Need-loop-preserved invariant-loop decreases-loop
 loop-again c =
     let first = c.before.before.before.before.from_at.ensures in
     let same = sym c.before.from-at2.ensures ∙ c.if1.false ∙ first in
-    passed-next _ c.before.before.before.loop.invariant c.before.before.loop-test.true (eq-eqb _ _ same)
+    passed_next _ c.before.before.before.loop.invariant c.before.before.loop-test.true (eq-eqb _ _ same)
 
-returns-2 : tie.Need-returns-2 invariant-loop decreases-loop
-returns-2 c = sym (passed-all _ c.before.loop.invariant c.loop-test.false)
+returns_2 : tie.Need-returns-2 invariant-loop decreases-loop
+returns_2 c = sym (passed_all _ c.before.loop.invariant c.loop-test.false)
 
-pub names-one-spec : {M : Type 1} → statement M
-names-one-spec =
+pub names_one_spec : {M : Type 1} → statement M
+names_one_spec =
     tie.close
     (tie.spec
     invariant-loop
@@ -59,4 +59,4 @@ names-one-spec =
     add-p
     loop-less
     loop-again
-    returns-2)
+    returns_2)

@@ -6,7 +6,7 @@ use mathlib.Core.Bool.{false}
 use native.Mathlib.Omega.{arith}
 use lib.ListN.{length}
 use borrow.Author.Rules.{rules}
-use Rattle.system.proofs.Whole.{whole-counts}
+use Rattle.system.proofs.Whole.{whole_counts}
 use Rattle.system.proofs.input.taken.Statement.{statement}
 use Rattle.system.proofs.input.taken.Tie as tie
 
@@ -32,7 +32,7 @@ returns : tie.Need-returns invariant-loop decreases-loop
 returns c =
     let read = c.before.before.before.before.before in
     let turn = read.before.before.before in
-    whole-counts read.read-on.result.failed {count = turn.loop.count} _ c.whole.ensures.0 c.whole.ensures.1 (omega arith)
+    whole_counts read.read-on.result.failed {count = turn.loop.count} _ c.whole.ensures.0 c.whole.ensures.1 (omega arith)
 
 add-count : tie.Need-overflow-add-count invariant-loop decreases-loop
 add-count c = search rules
@@ -46,14 +46,14 @@ loop-again c = search rules
 whole-requires-2 : tie.Need-whole-requires-2 invariant-loop decreases-loop
 whole-requires-2 c κs = search rules
 
-same-length-2 : tie.Need-same-length-2 invariant-loop decreases-loop
-same-length-2 c = search rules
+same_length_2 : tie.Need-same-length-2 invariant-loop decreases-loop
+same_length_2 c = search rules
 
-returns-2 : tie.Need-returns-2 invariant-loop decreases-loop
-returns-2 c = whole-counts false {count = c.before.before.loop.count} _ c.whole2.ensures.0 c.whole2.ensures.1 (omega arith)
+returns_2 : tie.Need-returns-2 invariant-loop decreases-loop
+returns_2 c = whole_counts false {count = c.before.before.loop.count} _ c.whole2.ensures.0 c.whole2.ensures.1 (omega arith)
 
-pub taken-spec : {M : Type 1} → statement M
-taken-spec =
+pub taken_spec : {M : Type 1} → statement M
+taken_spec =
     tie.close
     (tie.spec
     invariant-loop
@@ -67,5 +67,5 @@ taken-spec =
     loop-less
     loop-again
     whole-requires-2
-    same-length-2
-    returns-2)
+    same_length_2
+    returns_2)

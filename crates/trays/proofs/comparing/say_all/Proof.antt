@@ -27,8 +27,8 @@ shared-slice-copy-out-say-difference c = search rules
 say-difference-requires : tie.Need-say-difference-requires invariant-loop decreases-loop
 say-difference-requires c κs = search rules
 
-returns-2 : tie.Need-returns-2 invariant-loop decreases-loop
-returns-2 c = search rules
+returns_2 : tie.Need-returns-2 invariant-loop decreases-loop
+returns_2 c = search rules
 
 add-i : tie.Need-overflow-add-i invariant-loop decreases-loop
 add-i c = search rules
@@ -42,11 +42,11 @@ loop-again c = search rules
 say-total-requires : tie.Need-say-total-requires invariant-loop decreases-loop
 say-total-requires c κs = search rules
 
-returns-3 : tie.Need-returns-3 invariant-loop decreases-loop
-returns-3 c = search rules
+returns_3 : tie.Need-returns-3 invariant-loop decreases-loop
+returns_3 c = search rules
 
-pub say-all-spec : {M : Type 1} → statement M
-say-all-spec =
+pub say_all_spec : {M : Type 1} → statement M
+say_all_spec =
     tie.close
     (tie.spec
     invariant-loop
@@ -56,9 +56,9 @@ say-all-spec =
     mul-say-difference
     shared-slice-copy-out-say-difference
     say-difference-requires
-    returns-2
+    returns_2
     add-i
     loop-less
     loop-again
     say-total-requires
-    returns-3)
+    returns_3)

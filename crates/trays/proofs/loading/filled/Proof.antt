@@ -19,8 +19,8 @@ returns c = search rules
 is-tray-requires : tie.Need-is-tray-requires invariant-loop decreases-loop
 is-tray-requires c κs = search rules
 
-returns-2 : tie.Need-returns-2 invariant-loop decreases-loop
-returns-2 c = search rules
+returns_2 : tie.Need-returns-2 invariant-loop decreases-loop
+returns_2 c = search rules
 
 loop-holds : tie.Need-loop-init invariant-loop decreases-loop
 loop-holds c = search rules
@@ -49,18 +49,18 @@ loop-again c = search rules
 same_length : tie.Need-same-length invariant-loop decreases-loop
 same_length c = search rules
 
-returns-3 : tie.Need-returns-3 invariant-loop decreases-loop
-returns-3 c = search rules
+returns_3 : tie.Need-returns-3 invariant-loop decreases-loop
+returns_3 c = search rules
 
-pub filled-spec : {M : Type 1} → statement M
-filled-spec =
+pub filled_spec : {M : Type 1} → statement M
+filled_spec =
     tie.close
     (tie.spec
     invariant-loop
     decreases-loop
     returns
     is-tray-requires
-    returns-2
+    returns_2
     loop-holds
     add-load-keeper
     cast-load-keeper
@@ -70,4 +70,4 @@ filled-spec =
     loop-less
     loop-again
     same_length
-    returns-3)
+    returns_3)

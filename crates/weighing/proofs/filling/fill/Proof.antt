@@ -3,8 +3,8 @@
 use mathlib.Core.Path.{sym, ap, ◌∙◌}
 use borrow.Author.Rules.{rules}
 use Rattle.header.specs.declared.head.Head.{Head}
-use Rattle.header.specs.Head.{lawfulHead}
-use Rattle.weighing.specs.Weighing.{weighedLetter}
+use Rattle.header.specs.Head.{lawful_head}
+use Rattle.weighing.specs.Weighing.{weighed_letter}
 use Rattle.weighing.proofs.filling.fill.Statement.{statement}
 use Rattle.weighing.proofs.filling.fill.Tie as tie
 
@@ -20,7 +20,7 @@ write-requires c κs =
     let row = head.before.before.before in
     let start = row.before.before.before.before.before.before in
     let made = head.head-for.ensures in (
-      ap lawfulHead made ∙ start.requires.1.1.0,
+      ap lawful_head made ∙ start.requires.1.1.0,
       row.weigh-rows.auto.1.1.0 ∙ start.requires.1.0 ∙ sym (ap (λ (h : Head). h.length) made),
       start.requires.1.1.1,
     )
@@ -28,11 +28,11 @@ write-requires c κs =
 same_length : tie.Need-same-length
 same_length c = search rules
 
-same-length-2 : tie.Need-same-length-2
-same-length-2 c = search rules
+same_length_2 : tie.Need-same-length-2
+same_length_2 c = search rules
 
 returns : tie.Need-returns
-unfolding weighedLetter
+unfolding weighed_letter
 returns c =
     let written = c.before.before in
     let head = written.before.before.before in
@@ -43,4 +43,4 @@ returns c =
 pub fill_spec : {M : Type 1} → statement M
 fill_spec =
     tie.close
-    (tie.spec weigh-rows-requires head-for-requires write-requires same_length same-length-2 returns)
+    (tie.spec weigh-rows-requires head-for-requires write-requires same_length same_length_2 returns)

@@ -9,14 +9,14 @@ use lib.Seq.{length-take-le, take_at}
 use borrow.Author.Rules.{rules}
 use Rattle.lists.specs.Listed.{length-listed}
 use Rattle.tray.specs.SlotLaws.{length-slot}
-use Rattle.weigh.specs.PlainRows.{plainRow, row-none, row-addition, row_next, row-reduced}
-use Rattle.weighing.specs.WeighedRows.{subRow, sub-taken, sub-rows, rows-weighed}
+use Rattle.weigh.specs.PlainRows.{plain_row, row_none, row_addition, row_next, row_reduced}
+use Rattle.weighing.specs.WeighedRows.{sub_row, sub_taken, sub_rows, rows_weighed}
 use Rattle.weighing.proofs.filling.weigh_rows.Statement.{statement}
 use Rattle.weighing.proofs.filling.weigh_rows.Tie as tie
 
 abbrev invariant-loop : tie.invariant-loop
 invariant-loop froms letters row₀ sums₀ size k₀ row sums k =
-    (k ≤ length froms) × (length row ≡ size) × (length sums ≡ 952) × (take size sums ≡ plainRow froms (subRow letters size) 0 size k)
+    (k ≤ length froms) × (length row ≡ size) × (length sums ≡ 952) × (take size sums ≡ plain_row froms (sub_row letters size) 0 size k)
 
 abbrev decreases-loop : tie.decreases-loop
 decreases-loop froms letters row₀ sums₀ size k₀ row sums k = length froms - k
@@ -25,7 +25,7 @@ abbrev start : tie.At-loop invariant-loop decreases-loop → tie.Start invariant
 start c = c.before.before.before.before
 
 loop-holds : tie.Need-loop-init invariant-loop decreases-loop
-loop-holds c = (search rules, refl, refl, row-none (sub-rows c.before.before.before.requires) 0)
+loop-holds c = (search rules, refl, refl, row_none (sub_rows c.before.before.before.requires) 0)
 
 add-slot-of : tie.Need-overflow-add-slot-of invariant-loop decreases-loop
 add-slot-of c = search rules
@@ -40,10 +40,10 @@ take-shares-requires c κs = (rw c.before.slot_of.ensures (length-slot _ _ (omeg
 taken : (c : tie.After-take-shares invariant-loop decreases-loop)
     → let turn = c.before.before.before.before in
     let args = (start turn).args in
-    c.take-shares.new.1.0 ≡ subRow args.letters.now (length args.row.now) turn.loop.k
+    c.take-shares.new.1.0 ≡ sub_row args.letters.now (length args.row.now) turn.loop.k
 taken c =
     let turn = c.before.before.before.before in
-    sub-taken (start turn).requires turn.loop.k c.before.before.slot_of.ensures turn.loop.invariant.1 c.take-shares.ensures
+    sub_taken (start turn).requires turn.loop.k c.before.before.slot_of.ensures turn.loop.invariant.1 c.take-shares.ensures
 
 array-borrow-prefix-sums : tie.Need-array-borrow-prefix-sums invariant-loop decreases-loop
 array-borrow-prefix-sums c = omega arith
@@ -64,7 +64,7 @@ add-row-requires : tie.Need-add-row-requires invariant-loop decreases-loop
 add-row-requires c κs =
     let shares = c.before.before.before.before.before.before in
     let turn = shares.before.before.before.before in
-    rw (turn.loop.invariant.3, taken shares, c.factor-of.ensures) (row-addition (sub-rows (start turn).requires) 0 turn.loop.k (omega arith))
+    rw (turn.loop.invariant.3, taken shares, c.factor-of.ensures) (row_addition (sub_rows (start turn).requires) 0 turn.loop.k (omega arith))
 
 add-k : tie.Need-overflow-add-k invariant-loop decreases-loop
 add-k c = search rules
@@ -86,7 +86,7 @@ loop-again c =
       simp (length-append, length-drop) (omega arith),
       take_at added.new.0 (drop n here.sums) n size
           ∙ added.ensures
-          ∙ rw (here.invariant.3, length-listed, taken shares, factor.ensures) (row_next (sub-rows (start turn).requires) 0 here.k),
+          ∙ rw (here.invariant.3, length-listed, taken shares, factor.ensures) (row_next (sub_rows (start turn).requires) 0 here.k),
     )
 
 array-share-prefix-sums : tie.Need-array-share-prefix-sums invariant-loop decreases-loop
@@ -107,10 +107,10 @@ returns c =
     let here = turn.loop in
     let pre = (start turn).requires in
     let end : here.k ≡ length (start turn).args.froms.now = omega arith in
-    c.before.before.reduce.ensures ∙ rw (here.invariant.3, length-listed, end) (row-reduced (sub-rows pre) 0 ∙ rows-weighed pre)
+    c.before.before.reduce.ensures ∙ rw (here.invariant.3, length-listed, end) (row_reduced (sub_rows pre) 0 ∙ rows_weighed pre)
 
-pub weigh-rows-spec : {M : Type 1} → statement M
-weigh-rows-spec =
+pub weigh_rows_spec : {M : Type 1} → statement M
+weigh_rows_spec =
     tie.close
     (tie.spec
     invariant-loop
