@@ -1,7 +1,7 @@
 -- A set of keepers as a number: who is of it, how many they are, and how it grows in rising order.
 -- Assumes nothing.
 use Rattle.std.specs.Prelude.{ℕ, zero, suc, ◌+◌, ◌-◌, ◌*◌, ◌/◌, ◌%◌, ◌^◌, ◌≤◌, ◌<◌, ◌≡◌, refl, Bool, true, false, eqb}
-use Rattle.std.proofs.Common.{sym, ap, ap₂, ◌∙◌, true≢false, ⊎_elim, eq-or-lt_of_le, lt_of_lt_of_le, le_of_suc-le-suc, not-suc-le-zero, mul_assoc, pow-suc, div-lt_iff_lt-mul, mod-lt, add-one, sub-one, arith, pow-add, pow_mono, pow_pos}
+use Rattle.std.proofs.Common.{sym, subst, ap, ap₂, ◌∙◌, true≢false, ⊎_elim, eq-or-lt_of_le, lt_of_lt_of_le, le_of_suc-le-suc, not-suc-le-zero, mul_assoc, pow-suc, div-lt_iff_lt-mul, mod-lt, add-one, sub-one, arith, pow-add, pow_mono, pow_pos}
 use Rattle.std.proofs.Math.Logic.{by_cases}
 use Rattle.std.proofs.Math.Nat.{add_comm, div-eq_of_lt, mul-add-div_right, mul-add-mod_self_right}
 use Rattle.std.proofs.Math.Decide.{dec_le}
@@ -120,7 +120,8 @@ keeper_set-member (suc k) set h =
     let r = set % 2 ^ k in
     let l : d < 2 = (div-lt_iff_lt-mul (pow_pos k)).1 (omega arith) in
     let e : bit (eqb d 1) * 2 ^ k + r ≡ set = ap (λ (i : ℕ). i * 2 ^ k + r) (sym (one_digit d l)) ∙ split set k in
-    rw e at (of_digits (eqb d 1) r k (mod-lt set (pow_pos k)) (keeper_set-member k r (mod-lt set (pow_pos k))))
+    let P : ℕ → Type 0 = λ n. keeper_set (member n) (suc k) ≡ n in
+    subst P e (of_digits (eqb d 1) r k (mod-lt set (pow_pos k)) (keeper_set-member k r (mod-lt set (pow_pos k))))
 
 -- how many keepers a number has
 pub ones-member : (n set : ℕ) → set < 2 ^ n → ones set ≡ count (member set) (from 1 n)
