@@ -1,4 +1,6 @@
 // Random words for a cut, each of 0 .. 256 as likely as any other, from the system's own source.
+#![tactic(auto)]
+
 ghost use Rattle.std.specs.Prelude.{◌≡◌, true, length, ◌+◌, ◌*◌, ◌<◌, [], ◌∷◌};
 ghost use Rattle.block.specs.Check.{all_at_most};
 ghost use Rattle.chance.specs.Draw.{words_drawn, words_given, Laid, Begun};

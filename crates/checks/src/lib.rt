@@ -1,4 +1,6 @@
 // move-check --from T,F,N --order T,F,N --key K OLD NEW: whether a tray of old letters and one of moved letters give the same key. The keys are written nowhere.
+#![tactic(auto)]
+
 ghost use Rattle.std.specs.Prelude.{◌*◌, ◌≤◌, ◌≡◌, length};
 
 use block::bytes::same;

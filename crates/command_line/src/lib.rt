@@ -1,4 +1,6 @@
 // The words that a command is given, read one after the other: its options with their values, and the names.
+#![tactic(auto)]
+
 use crate::word::step;
 use options::form::whole;
 use options::given::{Given, none};

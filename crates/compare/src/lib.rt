@@ -1,4 +1,6 @@
 // What changed between two trays of one order: the places where they differ, with both words. No letter is read.
+#![tactic(auto)]
+
 ghost use Rattle.std.specs.Prelude.{◌≡◌, ◌&&◌, eqb, ◌*◌, ◌≤◌, length};
 ghost use Rattle.lists.specs.Below.{Below};
 ghost use Rattle.compare.specs.Compare.{compare_refusal, CompareDone};

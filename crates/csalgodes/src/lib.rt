@@ -1,4 +1,6 @@
 // The program csalgodes: letters, desks and trays as files.
+#![tactic(auto)]
+
 use block::bytes::same;
 use command_line::read;
 use files::load::front;

@@ -1,4 +1,6 @@
 // The keeper's desk: one held slot, lent.
+#![tactic(auto)]
+
 ghost use Rattle.std.specs.Prelude.{◌≡◌, ◌&&◌, eqb, length};
 ghost use Rattle.lists.specs.SameBytes.{same_bytes};
 ghost use Rattle.format.specs.Reading.{read_of, place_of};

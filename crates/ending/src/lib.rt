@@ -1,4 +1,6 @@
 // How a command ends: with the number of its call, which is said in words; with 99 where trays differ; with 100 where files are the trouble.
+#![tactic(auto)]
+
 ghost use Rattle.std.specs.Prelude.{◌≡◌, cond, eqb, pos};
 ghost use Rattle.ending.specs.Status.{status_of};
 

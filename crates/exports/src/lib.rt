@@ -1,4 +1,6 @@
 // The public calls for C, Rust and Python: plain numbers and slices.
+#![tactic(auto)]
+
 pub mod comparing;
 pub mod cutting;
 pub mod hosts;

@@ -1,5 +1,7 @@
 // Arithmetic modulo 257, total on every u16, and the one table of reciprocals.
 // Sums and products are taken in u32, where none wraps.
+#![tactic(auto)]
+
 ghost use Rattle.std.specs.Prelude.{◌≡◌};
 ghost use Rattle.field.specs.Modulo.{mod257};
 

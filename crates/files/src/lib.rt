@@ -1,3 +1,5 @@
 // What stands at a name, and files read whole.
+#![tactic(auto)]
+
 pub mod kind;
 pub mod load;

@@ -1,4 +1,6 @@
 // How the program is used, in words.
+#![tactic(auto)]
+
 use block::bytes::same;
 use options::form;
 use options::form::command_of;

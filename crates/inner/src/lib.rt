@@ -1,4 +1,6 @@
 // Calls for the tests alone, of functions that other crates can call and C cannot. The library that C gets does not have them.
+#![tactic(auto)]
+
 ghost use Rattle.std.specs.Prelude.{◌≡◌, cond, ◌∷◌};
 ghost use Rattle.algebra.specs.Poly.{eval};
 ghost use Rattle.field.specs.Modulo.{mod257};

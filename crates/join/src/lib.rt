@@ -1,4 +1,6 @@
 // The join: the secret, or why not.
+#![tactic(auto)]
+
 ghost use Rattle.std.specs.Prelude.{◌≡◌, ◌≤◌, length};
 ghost use Rattle.lists.specs.KeeperSet.{member};
 ghost use Rattle.field.specs.Modulo.{mod257};

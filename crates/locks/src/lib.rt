@@ -1,4 +1,6 @@
 // Locks, as git has them: NAME.lock, made by one program alone, holds NAME until it is renamed onto it or removed.
+#![tactic(auto)]
+
 ghost use Rattle.io.specs.Counts.{IsPrefixLen};
 
 use files::kind::seen;

@@ -1,4 +1,6 @@
 // Names of files, as bytes: what is put behind a name, the slots of a tray, the folder that a name stands in.
+#![tactic(auto)]
+
 ghost use Rattle.std.specs.Prelude.{◌≡◌, ◌++◌, take};
 ghost use Rattle.io.specs.Counts.{IsPrefixLen};
 ghost use Rattle.libc.specs.Io.{Ended};

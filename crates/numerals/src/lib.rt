@@ -1,4 +1,6 @@
 // Words as numbers: decimal digits; an order as three of them with commas between, and a list of them likewise.
+#![tactic(auto)]
+
 ghost use Rattle.std.specs.Prelude.{◌≡◌, false, ◌&&◌, leb};
 ghost use Rattle.numerals.specs.Numeral.{NumberRead};
 

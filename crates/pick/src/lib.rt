@@ -1,4 +1,6 @@
 // The pick: which stamp and length of a tray to join.
+#![tactic(auto)]
+
 ghost use Rattle.std.specs.Prelude.{◌≡◌, ◌<◌, ◌≤◌, length};
 ghost use Rattle.field.specs.Modulo.{mod257};
 ghost use Rattle.agree.specs.Rows.{Rows};

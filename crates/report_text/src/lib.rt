@@ -1,4 +1,6 @@
 // The report: from the input's bytes to the report's bytes.
+#![tactic(auto)]
+
 ghost use Rattle.std.specs.Prelude.{◌≡◌, ◌≤◌, length};
 ghost use Rattle.report_text.specs.Report.{has_lines, order_in, told_in, short_number, Reported};
 

@@ -1,4 +1,6 @@
 // The program `report`: an order, a key and a tray on standard input, the report on standard output, its number as the status.
+#![tactic(auto)]
+
 ghost use Rattle.std.specs.Prelude.{◌≡◌, List, ℕ, ◌≤◌};
 ghost use Rattle.reporting.specs.Status.{status_of, Ended};
 

@@ -1,4 +1,6 @@
 // What the program says to people: on standard error, in lines that name the file or the word and what is wrong with it.
+#![tactic(auto)]
+
 ghost use Rattle.std.specs.Prelude.{◌≡◌, pos};
 ghost use Rattle.io.specs.Counts.{IsPrefixLen};
 

@@ -1,4 +1,6 @@
 // The search at one word: a set of t + 1 keepers whose polynomial enough of the others match.
+#![tactic(auto)]
+
 ghost use Rattle.std.specs.Prelude.{◌≡◌, ◌+◌, ◌<◌, ◌≤◌, length};
 ghost use Rattle.std.specs.Int.Count.{ones};
 ghost use Rattle.lists.specs.KeeperSet.{keeper_set, member};

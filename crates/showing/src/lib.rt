@@ -1,4 +1,6 @@
 // The lines that the program csalgodes prints of a letter, of a difference, of a count and of a move that is checked, each from the start of a room of 128 bytes.
+#![tactic(auto)]
+
 ghost use Rattle.std.specs.Prelude.{◌+◌, ◌≤◌, ◌++◌, length};
 ghost use Rattle.io.specs.Counts.{IsPrefixLen};
 ghost use Rattle.lines.specs.Text.{decimal};

@@ -1,5 +1,7 @@
 // What the system says of a file by its name, and a short wait: two calls that fill C's structs, with nothing of those left to callers. And
 // standard input and output, whole.
+#![tactic(auto)]
+
 ghost use Rattle.libc.specs.Io.{Ended, Status};
 
 use libc::PATH_MAX;

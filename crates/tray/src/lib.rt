@@ -1,4 +1,6 @@
 // A tray of slots: the one scan that gathers its usable letters.
+#![tactic(auto)]
+
 ghost use Rattle.std.specs.Prelude.{◌≡◌, ◌*◌, ◌≤◌, length};
 ghost use Rattle.tray.specs.Tray.{slot_of, head_for};
 ghost use Rattle.tray.specs.Scan.{Scannable, Scanned};

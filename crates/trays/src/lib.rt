@@ -1,3 +1,5 @@
 // Trays as folders of slots: loading one, and the command that compares two.
+#![tactic(auto)]
+
 pub mod comparing;
 pub mod loading;

@@ -1,4 +1,6 @@
 // How many sets of usable keepers are tried up to the first that lies within the set that agrees.
+#![tactic(auto)]
+
 ghost use Rattle.std.specs.Prelude.{◌≡◌, ◌+◌, ◌≤◌, length};
 ghost use Rattle.lists.specs.Chosen.{chosen};
 ghost use Rattle.lists.specs.Count.{count};

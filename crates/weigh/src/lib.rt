@@ -1,4 +1,6 @@
 // Weighing: from words at some keepers to the words at another place, on the polynomials through them.
+#![tactic(auto)]
+
 ghost use Rattle.std.specs.Prelude.{◌≡◌, ◌-◌, ◌+◌, ◌*◌, ◌%◌, length, get_or};
 ghost use Rattle.lists.specs.Listed.{listed};
 ghost use Rattle.algebra.specs.Factor.{factor};

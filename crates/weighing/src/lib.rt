@@ -1,4 +1,6 @@
 // Weighing the sub-letters of enough old keepers into a new keeper's letter.
+#![tactic(auto)]
+
 ghost use Rattle.std.specs.Prelude.{◌≡◌, length};
 ghost use Rattle.field.specs.Modulo.{mod257};
 ghost use Rattle.sub_letters.specs.Judging.{weigh_refusal};
