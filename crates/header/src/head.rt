@@ -9,7 +9,7 @@ use crate::told::Told;
 use crate::{order, told};
 use block::words::word_at;
 
-#[derive(Drop)]
+#[derive(Clone, Copy)]
 pub struct Head {
     pub told: Told,
     pub keeper: usize,

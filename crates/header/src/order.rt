@@ -2,7 +2,7 @@
 ghost use Rattle.std.specs.Prelude.{◌≡◌};
 ghost use Rattle.header.specs.Order.{lawful_order, same_order, lawful_keeper};
 
-#[derive(Drop)]
+#[derive(Clone, Copy)]
 pub struct Order {
     pub t: usize,
     pub f: usize,

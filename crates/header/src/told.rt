@@ -5,7 +5,7 @@ ghost use Rattle.header.specs.Told.{lawful_told, same_told};
 use crate::order;
 use crate::order::Order;
 
-#[derive(Drop)]
+#[derive(Clone, Copy)]
 pub struct Told {
     pub order: Order,
     pub key: usize,
