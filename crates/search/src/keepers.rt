@@ -22,8 +22,8 @@ pub fn alone(k: usize) -> u16
 
 // The first t + 1 keepers of a set that has as many, in rising order.
 pub fn first(set: u16, t: usize) -> [u16; 8]
-    requires fact_1 { t ≤ 7 }
-    requires fact_2 { t + 1 ≤ ones set }
+    requires t_small { t ≤ 7 }
+    requires enough { t + 1 ≤ ones set }
     ensures { Base t 16 (member set) (take (t + 1) result) }
 {
     let mut who = [0u16; 8];

@@ -15,9 +15,9 @@ use weigh::carry_word;
 
 // Whether keeper k + 1 is among some, and its word lies on the polynomial through the points' words.
 fn keeper_matches(points: &[u16], words: &[u16], among: u16, k: usize) -> bool
-    requires fact_1 { Keepers points.now }
-    requires fact_2 { length words.now ≡ 16 }
-    requires fact_3 { k < 16 }
+    requires keepers { Keepers points.now }
+    requires words_size { length words.now ≡ 16 }
+    requires keeper { k < 16 }
     ensures { result ≡ carried_to mod257 (member among) (word words.now) points.now (k + 1) }
 {
     has(among, k) && carry_word(points, words, k as u16 + 1) == words[k]
@@ -25,8 +25,8 @@ fn keeper_matches(points: &[u16], words: &[u16], among: u16, k: usize) -> bool
 
 // The keepers among some whose words are those carried from the points.
 fn matching(points: &[u16], words: &[u16], among: u16) -> u16
-    requires fact_1 { Keepers points.now }
-    requires fact_2 { length words.now ≡ 16 }
+    requires keepers { Keepers points.now }
+    requires words_size { length words.now ≡ 16 }
     ensures { result ≡ keeper_set (carried_to mod257 (member among) (word words.now) points.now) 16 }
 {
     let mut set: u16 = 0;
@@ -42,10 +42,10 @@ fn matching(points: &[u16], words: &[u16], among: u16) -> u16
 
 // The keepers that match the polynomial through a base of t + 1 keepers, or none where they are too few.
 fn tried(words: &[u16], among: u16, t: usize, need: u32, base: u16) -> u16
-    requires fact_1 { Words words.now }
-    requires fact_2 { t ≤ 7 }
-    requires fact_3 { 1 ≤ need }
-    requires fact_4 { ones base ≡ t + 1 }
+    requires words { Words words.now }
+    requires t_small { t ≤ 7 }
+    requires need_some { 1 ≤ need }
+    requires base_full { ones base ≡ t + 1 }
     ensures { Finds mod257 t 16 need (member among) (word words.now) (Through mod257 16 (member base) (word words.now)) result }
 {
     let points = first(base, t);

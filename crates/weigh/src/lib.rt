@@ -29,8 +29,8 @@ pub fn factor_of(points: &[u16], a: u16, x: u16) -> u16
 
 // The word at x on the polynomial through the points' words, keeper k + 1's being word k.
 pub fn carry_word(points: &[u16], words: &[u16], x: u16) -> u16
-    requires fact_1 { Keepers points.now }
-    requires fact_2 { length words.now ≡ 16 }
+    requires keepers { Keepers points.now }
+    requires words_size { length words.now ≡ 16 }
     ensures { result ≡ carried mod257 points.now (λ a. get_or words.now (a - 1) 0) x }
 {
     let mut sum: u16 = 0;
