@@ -1,10 +1,13 @@
 // Random words for a cut, each of 0 .. 256 as likely as any other, from the system's own source.
 #![tactic(auto)]
 
-ghost use Rattle.std.specs.Prelude.{◌≡◌, true, length, ◌+◌, ◌*◌, ◌<◌, [], ◌∷◌};
+ghost use Rattle.std.specs.Prelude.{◌≡◌, true, length, OnOk, ◌+◌, ◌*◌, ◌<◌, [], ◌∷◌};
 ghost use Rattle.block.specs.Check.{all_at_most};
 ghost use Rattle.chance.specs.Draw.{words_drawn, words_given, Laid, Begun};
 ghost use Rattle.chance.specs.Draw.{drawn as Draw·drawn};
+
+use std::io::Error;
+use std::random::RandomSource;
 
 // What a draw of 16 bits gives: a word, or nothing, and then it is drawn again.
 #[derive(Drop)]
@@ -71,19 +74,24 @@ fn fill_from(bytes: &[u8; 256], words: &mut [u16], from: usize) -> usize
     count
 }
 
-// Fills the words, and answers whether the source gave enough.
-pub fn fill(words: &mut [u16]) -> bool
-    ensures { result ≡ true → all_at_most 256 words.new ≡ true }
+// The system's number for a source that does not give what it should.
+const EIO: i32 = 5;
+
+// Fills the words, or says why the source gave too little.
+pub fn fill(rt: &HostRuntime, words: &mut [u16]) -> Result<(), Error>
+    ensures { OnOk result (all_at_most 256 words.new ≡ true) }
 {
     let mut bytes = [0u8; 256];
     let mut count = 0;
     let mut calls: u64 = 0;
     while count < words.len() && calls < 1000 {
-        if libc::getentropy(&mut bytes) != 0 {
-            return false;
-        }
+        rt.fill_bytes(&mut bytes)?;
         count = fill_from(&bytes, words, count);
         calls += 1;
     }
-    count == words.len()
+    if count == words.len() {
+        Ok(())
+    } else {
+        Err(Error::from_raw_os_error(EIO))
+    }
 }

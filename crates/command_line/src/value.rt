@@ -5,6 +5,7 @@ use numerals::order::{OrderWord, order};
 use options::form;
 use options::form::wrong_word;
 use options::given::{Given, with_taken};
+use system::words::{word as word_at, word_count};
 
 fn with_old(g: Given, read: OrderWord) -> Given {
     let mut w = g;
@@ -22,10 +23,11 @@ fn with_new(g: Given, read: OrderWord) -> Given {
     w
 }
 
-fn with_order(g: Given, command: usize, option: usize, word: &[u8]) -> Given {
+fn with_order(rt: &HostRuntime, g: Given, command: usize, option: usize, word: &[u8]) -> Given {
     let read = order(word);
     if !read.right {
         return wrong_word(
+            rt,
             g,
             command,
             word,
@@ -40,10 +42,11 @@ fn with_order(g: Given, command: usize, option: usize, word: &[u8]) -> Given {
 }
 
 // The list of old keepers. Who wants the numbers reads the word again.
-fn with_keepers(g: Given, command: usize, at: usize, word: &[u8]) -> Given {
+fn with_keepers(rt: &HostRuntime, g: Given, command: usize, at: usize, word: &[u8]) -> Given {
     let mut room = [0u32; 8];
     if list(word, &mut room) == 0 {
         return wrong_word(
+            rt,
             g,
             command,
             word,
@@ -69,10 +72,11 @@ fn with_number(g: Given, option: usize, value: u32) -> Given {
     w
 }
 
-fn with_one(g: Given, command: usize, option: usize, word: &[u8]) -> Given {
+fn with_one(rt: &HostRuntime, g: Given, command: usize, option: usize, word: &[u8]) -> Given {
     let read = number(word);
     if !read.right {
         return wrong_word(
+            rt,
             g,
             command,
             word,
@@ -83,31 +87,33 @@ fn with_one(g: Given, command: usize, option: usize, word: &[u8]) -> Given {
 }
 
 // The value is the word that stands at a place.
-fn with_value(g: Given, command: usize, option: usize, at: usize, word: &[u8]) -> Given {
+fn with_value(rt: &HostRuntime, g: Given, command: usize, option: usize, at: usize, word: &[u8]) -> Given {
     if option == form::KEEPERS {
-        return with_keepers(g, command, at, word);
+        return with_keepers(rt, g, command, at, word);
     }
     if option == form::ORDER || option == form::FROM {
-        return with_order(g, command, option, word);
+        return with_order(rt, g, command, option, word);
     }
-    with_one(g, command, option, word)
+    with_one(rt, g, command, option, word)
 }
 
 // Reads the word behind an option as its value.
-pub fn value(g: Given, command: usize, option: usize, word: &[u8]) -> Given {
+pub fn value(rt: &HostRuntime, g: Given, command: usize, option: usize, word: &[u8]) -> Given {
     let at = g.next;
-    if at >= os::arg_count() {
-        return wrong_word(g, command, word, b"a value must follow it");
+    if at >= word_count(rt) {
+        return wrong_word(rt, g, command, word, b"a value must follow it");
     }
     let mut room = io::buffer();
-    let count = os::arg(at, &mut room);
-    if os::errno() != 0 {
+    let held = word_at(rt, at, &mut room);
+    let count = held.count;
+    if !held.whole {
         return wrong_word(
+            rt,
             g,
             command,
             word,
             b"the word behind it is too long to be its value",
         );
     }
-    with_value(with_taken(g), command, option, at, &room[..count])
+    with_value(rt, with_taken(g), command, option, at, &room[..count])
 }

@@ -4,6 +4,7 @@ use files::load::{front, is_dash};
 use options::form;
 use options::form::{form_of, has, option_of, with_option, wrong_word};
 use options::given::{Given, with_taken};
+use system::words::word as word_at;
 
 // Whether a word has the form of an option: it begins with - and has more behind it.
 fn is_option(word: &[u8]) -> bool {
@@ -25,15 +26,16 @@ fn with_name(g: Given, at: usize) -> Given {
     w
 }
 
-fn name(g: Given, command: usize, at: usize, word: &[u8]) -> Given {
+fn name(rt: &HostRuntime, g: Given, command: usize, at: usize, word: &[u8]) -> Given {
     if word.len() == 0 {
-        return wrong_word(g, command, word, b"an empty word names no file");
+        return wrong_word(rt, g, command, word, b"an empty word names no file");
     }
     if g.names >= form_of(command).names {
-        return wrong_word(g, command, word, b"is one name too many");
+        return wrong_word(rt, g, command, word, b"is one name too many");
     }
     if is_dash(word) && !form::takes_dash(command, g.names == 1) {
         return wrong_word(
+            rt,
             g,
             command,
             word,
@@ -44,16 +46,16 @@ fn name(g: Given, command: usize, at: usize, word: &[u8]) -> Given {
 }
 
 // An option that the command takes and that was not given before.
-fn new_option(g: Given, command: usize, option: usize, word: &[u8]) -> Given {
+fn new_option(rt: &HostRuntime, g: Given, command: usize, option: usize, word: &[u8]) -> Given {
     let mut w = g;
     w.seen = with_option(g.seen, option);
     if option == form::REPLACE {
         return w;
     }
-    value(w, command, option, word)
+    value(rt, w, command, option, word)
 }
 
-fn option(g: Given, command: usize, option: usize, word: &[u8]) -> Given {
+fn option(rt: &HostRuntime, g: Given, command: usize, option: usize, word: &[u8]) -> Given {
     let mut w = g;
     if option == form::HELP {
         w.help = true;
@@ -65,6 +67,7 @@ fn option(g: Given, command: usize, option: usize, word: &[u8]) -> Given {
     }
     if option == form::OPTIONS {
         return wrong_word(
+            rt,
             g,
             command,
             word,
@@ -72,22 +75,24 @@ fn option(g: Given, command: usize, option: usize, word: &[u8]) -> Given {
         );
     }
     if !has(form_of(command).takes, option) {
-        return wrong_word(g, command, word, b"is no option of this command");
+        return wrong_word(rt, g, command, word, b"is no option of this command");
     }
     if has(g.seen, option) {
-        return wrong_word(g, command, word, b"is given twice");
+        return wrong_word(rt, g, command, word, b"is given twice");
     }
-    new_option(g, command, option, word)
+    new_option(rt, g, command, option, word)
 }
 
 // Reads the next word.
-pub fn step(g: Given, command: usize) -> Given {
+pub fn step(rt: &HostRuntime, g: Given, command: usize) -> Given {
     let at = g.next;
     let mut room = io::buffer();
-    let count = os::arg(at, &mut room);
-    if os::errno() != 0 {
+    let held = word_at(rt, at, &mut room);
+    let count = held.count;
+    if !held.whole {
         let start = front(64, &room);
         return wrong_word(
+            rt,
             g,
             command,
             &room[..start],
@@ -96,7 +101,7 @@ pub fn step(g: Given, command: usize) -> Given {
     }
     let word = &room[..count];
     if g.names_only || !is_option(word) {
-        return name(with_taken(g), command, at, word);
+        return name(rt, with_taken(g), command, at, word);
     }
-    option(with_taken(g), command, option_of(word), word)
+    option(rt, with_taken(g), command, option_of(word), word)
 }

@@ -14,10 +14,10 @@ fn as_status(number: u32) -> i32
 }
 
 // Says what a number means that a call gave, with the place of a fault in a letter, and ends with it.
-pub fn answered(number: u32, place: u32) -> i32
+pub fn answered(rt: &HostRuntime, number: u32, place: u32) -> i32
     ensures { result ≡ status_of number }
 {
-    explain(number, place);
+    explain(rt, number, place);
     as_status(number)
 }
 

@@ -1,6 +1,7 @@
 // What stands at a name. It is asked before a file is opened or replaced: the open of a pipe can wait for ever.
-use libc::PATH_MAX;
-use names::ended;
+use std::fs::Metadata;
+use std::io::{Error, ErrorKind};
+use std::os::unix::fs::MetadataExt;
 use system::known;
 
 #[derive(Drop)]
@@ -10,7 +11,8 @@ pub enum Kind {
     Folder,
     Link,
     Other,
-    Unknown,
+    // and why
+    Unknown(Error),
 }
 
 #[derive(Drop)]
@@ -20,25 +22,24 @@ pub struct Place {
     pub group: u32,
 }
 
-fn kind_of(mode: u32) -> Kind {
-    let kind = mode & libc::S_IFMT;
-    if kind == libc::S_IFREG {
+fn kind_of(found: &Metadata) -> Kind {
+    if found.is_file() {
         Kind::File
-    } else if kind == libc::S_IFDIR {
+    } else if found.is_dir() {
         Kind::Folder
-    } else if kind == libc::S_IFLNK {
+    } else if found.is_symlink() {
         Kind::Link
     } else {
         Kind::Other
     }
 }
 
-// Of what the system does not tell of: it is not there, or errno says what is wrong.
-fn kind_without(error: i32) -> Kind {
-    if error == libc::ENOENT || error == libc::ENOTDIR {
-        Kind::Missing
-    } else {
-        Kind::Unknown
+// Of what the system does not tell of: it is not there, or the error says what is wrong.
+fn kind_without(error: Error) -> Kind {
+    match error.kind() {
+        ErrorKind::NotFound => Kind::Missing,
+        ErrorKind::NotADirectory => Kind::Missing,
+        _ => Kind::Unknown(error),
     }
 }
 
@@ -51,19 +52,13 @@ fn nobody_s(kind: Kind) -> Place {
 }
 
 // What stands at a name: a link itself, or where follows is true what it leads to.
-pub fn seen(name: &[u8], follows: bool) -> Place {
-    if name.len() >= PATH_MAX {
-        // it opens nothing, and sets errno to say that the name is too long
-        os::open_read(name);
-        return nobody_s(Kind::Unknown);
-    }
-    let found = known(&ended(name), follows);
-    if found.status != 0 {
-        return nobody_s(kind_without(os::errno()));
-    }
-    Place {
-        kind: kind_of(found.mode),
-        owner: found.owner,
-        group: found.group,
+pub fn seen(rt: &HostRuntime, name: &[u8], follows: bool) -> Place {
+    match known(rt, name, follows) {
+        Ok(found) => Place {
+            kind: kind_of(&found),
+            owner: found.uid(),
+            group: found.gid(),
+        },
+        Err(error) => nobody_s(kind_without(error)),
     }
 }

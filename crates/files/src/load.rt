@@ -4,15 +4,19 @@ ghost use Rattle.io.specs.Counts.{IsPrefixLen};
 
 use crate::kind::{Kind, seen};
 use saying::{refused, trouble};
+use std::fs::File;
+use std::io::Error;
 use system::input::taken;
+use system::named::opened;
+use system::words::word;
 
-// How reading went. Where it was no Read, errno says what the Trouble is.
+// How reading went, and why there was trouble.
 #[derive(Drop)]
 pub enum Got {
     Read,
     Missing,
     NoFile,
-    Trouble,
+    Trouble(Error),
 }
 
 #[derive(Drop)]
@@ -27,18 +31,13 @@ fn nothing(got: Got) -> Loaded
     Loaded { got, count: 0 }
 }
 
-// Reads a plain file as far as there is room.
-fn load_file(name: &[u8], room: &mut [u8]) -> Loaded
+// What a file that is open has, as far as there is room.
+fn load_open(mut file: File, room: &mut [u8]) -> Loaded
     ensures { IsPrefixLen result.count room.new }
 {
-    let file = os::open_read(name);
-    if file < 0 {
-        return nothing(Got::Trouble);
-    }
-    let took = taken(file, room);
-    libc::close(file);
+    let took = taken(&mut file, room);
     if took.failed {
-        return nothing(Got::Trouble);
+        return nothing(Got::Trouble(took.error));
     }
     Loaded {
         got: Got::Read,
@@ -46,16 +45,26 @@ fn load_file(name: &[u8], room: &mut [u8]) -> Loaded
     }
 }
 
-// Reads a file, or where follows is true what a link leads to. What is no plain file is not opened.
-pub fn load(name: &[u8], follows: bool, room: &mut [u8]) -> Loaded
+// Reads a plain file as far as there is room.
+fn load_file(rt: &HostRuntime, name: &[u8], room: &mut [u8]) -> Loaded
     ensures { IsPrefixLen result.count room.new }
 {
-    let found = seen(name, follows);
+    match opened(rt, name) {
+        Ok(file) => load_open(file, room),
+        Err(error) => nothing(Got::Trouble(error)),
+    }
+}
+
+// Reads a file, or where follows is true what a link leads to. What is no plain file is not opened.
+pub fn load(rt: &HostRuntime, name: &[u8], follows: bool, room: &mut [u8]) -> Loaded
+    ensures { IsPrefixLen result.count room.new }
+{
+    let found = seen(rt, name, follows);
     let kind = found.kind;
     match kind {
-        Kind::File => load_file(name, room),
+        Kind::File => load_file(rt, name, room),
         Kind::Missing => nothing(Got::Missing),
-        Kind::Unknown => nothing(Got::Trouble),
+        Kind::Unknown(error) => nothing(Got::Trouble(error)),
         Kind::Folder => nothing(Got::NoFile),
         Kind::Link => nothing(Got::NoFile),
         Kind::Other => nothing(Got::NoFile),
@@ -78,12 +87,12 @@ fn unread() -> Input
     }
 }
 
-fn from_standard_input(room: &mut [u8]) -> Input
+fn from_standard_input(rt: &HostRuntime, room: &mut [u8]) -> Input
     ensures { IsPrefixLen result.count room.new }
 {
-    let took = taken(libc::STDIN_FILENO, room);
+    let took = taken(&mut rt.stdin(), room);
     if took.failed {
-        trouble(b"standard input", b"cannot be read");
+        trouble(rt, b"standard input", b"cannot be read", took.error);
         return unread();
     }
     Input {
@@ -93,13 +102,13 @@ fn from_standard_input(room: &mut [u8]) -> Input
 }
 
 // Reads what a word names, a file or '-' for standard input; says what is wrong where there is nothing.
-fn given(word: &[u8], room: &mut [u8]) -> Input
+fn given(rt: &HostRuntime, word: &[u8], room: &mut [u8]) -> Input
     ensures { IsPrefixLen result.count room.new }
 {
     if is_dash(word) {
-        return from_standard_input(room);
+        return from_standard_input(rt, room);
     }
-    let loaded = load(word, true, room);
+    let loaded = load(rt, word, true, room);
     let got = loaded.got;
     match got {
         Got::Read => Input {
@@ -107,30 +116,31 @@ fn given(word: &[u8], room: &mut [u8]) -> Input
             count: loaded.count,
         },
         Got::Missing => {
-            refused(word, b"there is no such file");
+            refused(rt, word, b"there is no such file");
             unread()
         }
         Got::NoFile => {
             refused(
+                rt,
                 word,
                 b"is not a plain file, and is not read; what a pipe gives is read from standard input, by -",
             );
             unread()
         }
-        Got::Trouble => {
-            trouble(word, b"cannot be read");
+        Got::Trouble(error) => {
+            trouble(rt, word, b"cannot be read", error);
             unread()
         }
     }
 }
 
 // Reads what one of the program's words names.
-pub fn given_by(word: usize, room: &mut [u8]) -> Input
+pub fn given_by(rt: &HostRuntime, at: usize, room: &mut [u8]) -> Input
     ensures { IsPrefixLen result.count room.new }
 {
     let mut name = io::buffer();
-    let count = os::arg(word, &mut name);
-    given(&name[..count], room)
+    let count = word(rt, at, &mut name).count;
+    given(rt, &name[..count], room)
 }
 
 // Whether a word stands for standard input or output.

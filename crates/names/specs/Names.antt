@@ -1,11 +1,15 @@
 -- Names in a room for names, and names as C takes them.
 -- Assumes nothing.
-use Rattle.std.specs.Prelude.{ℕ, ◌-◌, ◌<◌, ◌≤◌, ◌≡◌, List, length, take, drop, replicate}
+use Rattle.std.specs.Prelude.{ℕ, ◌-◌, ◌<◌, ◌≤◌, ◌≡◌, List, length, take, drop, replicate, slice_index_or}
 
 -- the whole name and its length; or the length 0, where it is longer than the 4,095 bytes that the system takes
 pub record Named (whole out : List ℕ) (count : ℕ) : Type 0 where
   pub fits : length whole ≤ 4095 → (count ≡ length whole) × (take count out ≡ whole)
   pub long : 4095 < length whole → count ≡ 0
+
+-- the last of a path's 4096 bytes is 0
+abbrev pub Ended : List ℕ → Type 0
+Ended bytes = slice_index_or bytes 4095 1 ≡ 0
 
 -- the name, and zeros behind it; or zeros alone, where it is longer than that
 pub record Closed (name held : List ℕ) : Type 0 where

@@ -3,12 +3,13 @@
 
 ghost use Rattle.std.specs.Prelude.{◌≡◌, ◌++◌, take};
 ghost use Rattle.io.specs.Counts.{IsPrefixLen};
-ghost use Rattle.libc.specs.Io.{Ended};
 ghost use Rattle.lines.specs.Text.{decimal, text};
-ghost use Rattle.names.specs.Names.{Named, Closed};
+ghost use Rattle.names.specs.Names.{Named, Ended, Closed};
 
-use libc::PATH_MAX;
 use lines::text::{put, put_decimal};
+
+// How many bytes a name has at most, with the 0 at its end.
+pub const PATH_MAX: usize = 4096;
 
 const LAST: usize = PATH_MAX - 1;
 

@@ -148,26 +148,33 @@ pub fn option_of(word: &[u8]) -> usize {
 }
 
 // Says which word is wrong, and by which rule.
-pub fn wrong_word(g: Given, command: usize, word: &[u8], rule: &[u8]) -> Given {
+pub fn wrong_word(
+    rt: &HostRuntime,
+    g: Given,
+    command: usize,
+    word: &[u8],
+    rule: &[u8],
+) -> Given {
     let name = entry(&COMMAND_WORDS, command);
     let from = name.from;
     let to = name.to;
-    wrong(&COMMAND_WORDS[from..to], word, rule);
+    wrong(rt, &COMMAND_WORDS[from..to], word, rule);
     with_wrong(g)
 }
 
-fn without_option(g: Given, command: usize, option: usize, rule: &[u8]) -> Given {
+fn without_option(rt: &HostRuntime, g: Given, command: usize, option: usize, rule: &[u8]) -> Given {
     let name = entry(&OPTION_WORDS, option);
     let from = name.from;
     let to = name.to;
-    wrong_word(g, command, &OPTION_WORDS[from..to], rule)
+    wrong_word(rt, g, command, &OPTION_WORDS[from..to], rule)
 }
 
-fn without_name(g: Given, command: usize, name: usize) -> Given {
+fn without_name(rt: &HostRuntime, g: Given, command: usize, name: usize) -> Given {
     let part = entry(&NAME_WORDS, name);
     let from = part.from;
     let to = part.to;
     wrong_word(
+        rt,
         g,
         command,
         &NAME_WORDS[from..to],
@@ -205,14 +212,15 @@ fn next_name(command: usize, names: u32) -> usize {
 }
 
 // Sees that all is there that the command needs.
-pub fn whole(g: Given, command: usize) -> Given {
+pub fn whole(rt: &HostRuntime, g: Given, command: usize) -> Given {
     let form = form_of(command);
     let missing = first_without(form.needs, g.seen);
     if missing < OPTIONS {
-        return without_option(g, command, missing, b"is missing");
+        return without_option(rt, g, command, missing, b"is missing");
     }
     if command == JOIN && is_half(g.seen) {
         return without_option(
+            rt,
             g,
             command,
             STAMP,
@@ -220,7 +228,7 @@ pub fn whole(g: Given, command: usize) -> Given {
         );
     }
     if g.names < form.names {
-        return without_name(g, command, next_name(command, g.names));
+        return without_name(rt, g, command, next_name(command, g.names));
     }
     g
 }

@@ -1,5 +1,5 @@
 // What the words say.
-#[derive(Drop)]
+#[derive(Clone, Copy)]
 pub struct Given {
     // no word was wrong so far
     pub right: bool,

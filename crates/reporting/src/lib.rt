@@ -6,6 +6,7 @@ ghost use Rattle.reporting.specs.Status.{status_of, Ended};
 
 use crate::standard::{refuse_words, taken, wrote};
 use report_text::report;
+use system::words::word_count;
 
 mod standard;
 
@@ -18,26 +19,25 @@ fn status_of(written: bool, number: u32) -> i32
 }
 
 // Writes the report of an input.
-fn write_report(input: &[u8]) -> i32
+fn write_report(rt: &HostRuntime, input: &[u8]) -> i32
     ensures { Ended input.now result }
 {
     let mut out = [0u8; 512];
     let answered = report(input, &mut out);
     let count = answered.count;
-    let written = wrote(&out[..count]);
+    let written = wrote(rt, &out[..count]);
     status_of(written, answered.number)
 }
 
-// The whole program, and the entry that it is linked by: what Rattle's own `main` returns is always 0.
-#[unsafe(no_mangle)]
-pub extern "C" fn report_run() -> i32
+// The whole program.
+pub fn report_run(rt: &HostRuntime) -> i32
     ensures { (input : List ℕ) × Ended input result }
 {
-    if os::arg_count() > 1 {
-        return refuse_words();
+    if word_count(rt) > 1 {
+        return refuse_words(rt);
     }
     // One byte more than the longest input, so that a longer one is seen to be too long.
     let mut input = [0u8; 32773];
-    let given = taken(&mut input);
-    write_report(&input[..given])
+    let given = taken(rt, &mut input);
+    write_report(rt, &input[..given])
 }

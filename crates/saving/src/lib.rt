@@ -3,3 +3,4 @@
 
 pub mod folder;
 pub mod save;
+mod temp;

@@ -1,12 +1,19 @@
 // Writing: always into a new file of its owner alone, beside the target; it is renamed when all of it is on the disk.
+use crate::temp::created_temp;
 use files::kind::{Kind, seen};
 use files::load::is_dash;
 use locks::{held, let_go, lock_of};
 use names::with;
 use saying::{refused, trouble};
+use std::fs::{File, Permissions};
+use std::io::{Error, Write};
+use std::os::fd::AsFd;
+use std::os::unix::fs::{MetadataExt, PermissionsExt, fchown};
+use system::named::{opened, removed, renamed as moved};
+use system::output::{Stream, put, synced as flushed};
 
-// Whose a file is to be. What fchown is told with KEPT stays as it is.
-#[derive(Drop)]
+// Whose a file is to be. What is KEPT stays as it is.
+#[derive(Clone, Copy)]
 pub struct Owner {
     pub user: u32,
     pub group: u32,
@@ -24,162 +31,187 @@ pub fn own() -> Owner {
 
 // The owner that a file of this user and group is to keep: where they are another's.
 pub fn owner_of(user: u32, group: u32) -> Owner {
-    if user == libc::geteuid() {
-        return own();
-    }
     Owner { user, group }
 }
 
-fn is_given(file: i32, owner: Owner) -> bool {
-    if owner.user == KEPT {
-        return true;
+// Whether a file that the program has made is this user's already.
+fn is_of(file: &File, user: u32) -> bool {
+    match file.metadata() {
+        Ok(found) => found.uid() == user,
+        Err(_) => false,
     }
-    libc::fchown(file, owner.user, owner.group) == 0
 }
 
-// Whether a file is its owner's alone, and that owner's. A umask may have taken even the owner's bits.
-fn is_private(file: i32, owner: Owner) -> bool {
-    if libc::fchmod(file, 0o600) != 0 {
-        return false;
+fn given(file: &File, owner: Owner) -> Result<(), Error> {
+    if owner.user == KEPT || is_of(file, owner.user) {
+        return Ok(());
     }
-    is_given(file, owner)
+    fchown(file.as_fd(), Some(owner.user), Some(owner.group))
 }
 
-// Whether all bytes are in the file and on the disk. The one place that hands a secret or a letter to a write of a file.
-fn filled(file: i32, bytes: &[u8], owner: Owner) -> bool {
-    if !is_private(file, owner) {
-        return false;
+// Makes a file its owner's alone, and that owner's. A umask may have taken even the owner's bits.
+fn made_private(file: &File, owner: Owner) -> Result<(), Error> {
+    file.set_permissions(Permissions::from_mode(0o600))?;
+    given(file, owner)
+}
+
+// Puts all bytes into the file and on the disk. The one place that hands a secret or a letter to a write of a file.
+fn filled(mut file: File, bytes: &[u8], owner: Owner) -> Result<(), Error> {
+    made_private(&file, owner)?;
+    file.write_all(bytes)?;
+    file.sync_all()
+}
+
+// Puts the file in its place that was made under a name that no other has; removes it where it cannot be.
+fn is_at(rt: &HostRuntime, new: &[u8], place: &[u8]) -> bool {
+    match moved(rt, new, place) {
+        Ok(()) => true,
+        Err(error) => {
+            trouble(rt, place, b"cannot be put in its place", error);
+            let _ = removed(rt, new);
+            false
+        }
     }
-    if !io::write_all(file, bytes) {
-        return false;
+}
+
+// Fills the file that was made under a name that no other has, and puts it in its place.
+fn placed_in(
+    rt: &HostRuntime,
+    file: File,
+    new: &[u8],
+    bytes: &[u8],
+    place: &[u8],
+    owner: Owner,
+) -> bool {
+    match filled(file, bytes, owner) {
+        Ok(()) => is_at(rt, new, place),
+        Err(error) => {
+            trouble(rt, new, b"cannot be written, and is removed", error);
+            let _ = removed(rt, new);
+            false
+        }
     }
-    if libc::fsync(file) != 0 {
-        return false;
-    }
-    libc::close(file) == 0
 }
 
 // Makes a file of these bytes under a name that no other has, and renames it to its place. new ends in XXXXXX.
-fn placed_by(new: &mut [u8], bytes: &[u8], place: &[u8], owner: Owner) -> bool {
-    let file = os::create_temp(new);
-    if file < 0 {
-        trouble(new, b"cannot be made");
-        return false;
+fn placed_by(
+    rt: &HostRuntime,
+    new: &mut [u8],
+    bytes: &[u8],
+    place: &[u8],
+    owner: Owner,
+) -> bool {
+    match created_temp(rt, new) {
+        Ok(file) => placed_in(rt, file, new, bytes, place, owner),
+        Err(error) => {
+            trouble(rt, new, b"cannot be made", error);
+            false
+        }
     }
-    if !filled(file, bytes, owner) {
-        trouble(new, b"cannot be written, and is removed");
-        os::unlink(new);
-        return false;
-    }
-    if os::rename(new, place) != 0 {
-        trouble(place, b"cannot be put in its place");
-        os::unlink(new);
-        return false;
-    }
-    true
 }
 
 // The bytes at a place, by way of a new file beside the target.
-pub fn placed(target: &[u8], bytes: &[u8], place: &[u8], owner: Owner) -> bool {
+pub fn placed(rt: &HostRuntime, target: &[u8], bytes: &[u8], place: &[u8], owner: Owner) -> bool {
     let mut new = io::buffer();
     let count = with(target, b".new-XXXXXX", &mut new);
     if count == 0 {
         refused(
+            rt,
             target,
             b"is too long a name: there must be room for .new-XXXXXX behind it",
         );
         return false;
     }
-    placed_by(&mut new[..count], bytes, place, owner)
+    placed_by(rt, &mut new[..count], bytes, place, owner)
 }
 
-// Whether the folder that is open has its names on the disk. Some file systems know no such call, and say EINVAL.
-fn synced_open(file: i32) -> bool {
-    if libc::fsync(file) == 0 {
-        return true;
-    }
-    os::errno() == libc::EINVAL
+// Puts the names of a folder on the disk. Some file systems know no such call, and say EINVAL.
+pub fn synced(rt: &HostRuntime, folder: &[u8]) -> Result<(), Error> {
+    let file = opened(rt, folder)?;
+    flushed(&file)
 }
 
-// Whether a folder has its names on the disk.
-pub fn synced(folder: &[u8]) -> bool {
-    let file = os::open_read(folder);
-    if file < 0 {
-        return false;
+// Puts on the disk the folder in which a name stands.
+fn folder_synced(rt: &HostRuntime, name: &[u8]) -> Result<(), Error> {
+    let end = names::folder(name);
+    if end == 0 {
+        synced(rt, b".")
+    } else {
+        synced(rt, &name[..end])
     }
-    let done = synced_open(file);
-    libc::close(file);
-    done
 }
 
 // Whether the folder in which a name stands has it on the disk; says so where not.
-pub fn named_for_good(name: &[u8]) -> bool {
-    let end = names::folder(name);
-    let done = if end == 0 {
-        synced(b".")
-    } else {
-        synced(&name[..end])
-    };
-    if !done {
-        trouble(
-            name,
-            b"is in its place, but its folder cannot be synced, and a power cut may undo it",
-        );
+pub fn named_for_good(rt: &HostRuntime, name: &[u8]) -> bool {
+    match folder_synced(rt, name) {
+        Ok(()) => true,
+        Err(error) => {
+            trouble(
+                rt,
+                name,
+                b"is in its place, but its folder cannot be synced, and a power cut may undo it",
+                error,
+            );
+            false
+        }
     }
-    done
 }
 
 // Renames the lock, which is written, onto its file.
-fn renamed(lock: &[u8], name: &[u8]) -> bool {
-    if os::rename(lock, name) == 0 {
-        return named_for_good(name);
+fn renamed(rt: &HostRuntime, lock: &[u8], name: &[u8]) -> bool {
+    match moved(rt, lock, name) {
+        Ok(()) => named_for_good(rt, name),
+        Err(error) => {
+            trouble(rt, name, b"cannot be replaced, and is as it was", error);
+            let _ = removed(rt, lock);
+            false
+        }
     }
-    trouble(name, b"cannot be replaced, and is as it was");
-    os::unlink(lock);
-    false
 }
 
 // Puts bytes into a file that is held, and lets it go: the lock becomes the file, in one step.
-pub fn replaced(name: &[u8], bytes: &[u8], owner: Owner) -> bool {
+pub fn replaced(rt: &HostRuntime, name: &[u8], bytes: &[u8], owner: Owner) -> bool {
     let mut lock = io::buffer();
-    let count = lock_of(name, &mut lock);
+    let count = lock_of(rt, name, &mut lock);
     if count == 0 {
         return false;
     }
-    if !placed(name, bytes, &lock[..count], owner) {
-        os::unlink(&lock[..count]);
+    if !placed(rt, name, bytes, &lock[..count], owner) {
+        let _ = removed(rt, &lock[..count]);
         return false;
     }
-    renamed(&lock[..count], name)
+    renamed(rt, &lock[..count], name)
 }
 
 // Whether a file may be written: nothing is there, or a plain file that is to be replaced. Says why not.
-pub fn is_free(name: &[u8], replaces: bool) -> bool {
-    let found = seen(name, false);
+pub fn is_free(rt: &HostRuntime, name: &[u8], replaces: bool) -> bool {
+    let found = seen(rt, name, false);
     let kind = found.kind;
     match kind {
         Kind::Missing => true,
         Kind::File => {
             if !replaces {
                 refused(
+                    rt,
                     name,
                     b"is there already: name another file, or say --replace",
                 );
             }
             replaces
         }
-        Kind::Unknown => {
-            trouble(name, b"cannot be looked at");
+        Kind::Unknown(error) => {
+            trouble(rt, name, b"cannot be looked at", error);
             false
         }
-        Kind::Folder => is_in_the_way(name),
-        Kind::Link => is_in_the_way(name),
-        Kind::Other => is_in_the_way(name),
+        Kind::Folder => is_in_the_way(rt, name),
+        Kind::Link => is_in_the_way(rt, name),
+        Kind::Other => is_in_the_way(rt, name),
     }
 }
 
-fn is_in_the_way(name: &[u8]) -> bool {
+fn is_in_the_way(rt: &HostRuntime, name: &[u8]) -> bool {
     refused(
+        rt,
         name,
         b"is there and no plain file, and is not replaced: name another file",
     );
@@ -187,35 +219,37 @@ fn is_in_the_way(name: &[u8]) -> bool {
 }
 
 // Writes a file that is not there, or replaces one.
-pub fn saved(name: &[u8], bytes: &[u8], replaces: bool) -> bool {
-    if !held(name) {
+pub fn saved(rt: &HostRuntime, name: &[u8], bytes: &[u8], replaces: bool) -> bool {
+    if !held(rt, name) {
         return false;
     }
-    if !is_free(name, replaces) {
-        let_go(name);
+    if !is_free(rt, name, replaces) {
+        let_go(rt, name);
         return false;
     }
-    replaced(name, bytes, own())
+    replaced(rt, name, bytes, own())
 }
 
 // Writes what is said, to standard output or standard error, and answers whether that was taken.
-pub fn said(to: i32, bytes: &[u8]) -> bool {
-    if io::write_all(to, bytes) {
-        return true;
+pub fn said(rt: &HostRuntime, to: Stream, bytes: &[u8]) -> bool {
+    match put(rt, to, bytes) {
+        Ok(()) => true,
+        Err(error) => {
+            trouble(rt, b"standard output", b"cannot be written", error);
+            false
+        }
     }
-    trouble(b"standard output", b"cannot be written");
-    false
 }
 
 // Whether what a word names may be written: standard output always.
-pub fn is_writable(word: &[u8], replaces: bool) -> bool {
-    is_dash(word) || is_free(word, replaces)
+pub fn is_writable(rt: &HostRuntime, word: &[u8], replaces: bool) -> bool {
+    is_dash(word) || is_free(rt, word, replaces)
 }
 
 // Writes to where a word says: a file, or '-' for standard output.
-pub fn put_out(word: &[u8], bytes: &[u8], replaces: bool) -> bool {
+pub fn put_out(rt: &HostRuntime, word: &[u8], bytes: &[u8], replaces: bool) -> bool {
     if is_dash(word) {
-        return said(libc::STDOUT_FILENO, bytes);
+        return said(rt, Stream::Output, bytes);
     }
-    saved(word, bytes, replaces)
+    saved(rt, word, bytes, replaces)
 }

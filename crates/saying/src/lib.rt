@@ -6,9 +6,12 @@ ghost use Rattle.io.specs.Counts.{IsPrefixLen};
 
 pub mod line;
 pub mod numbers;
+pub mod reason;
 pub mod table;
 
 use crate::line::{add, four, say};
+use crate::reason::add_reason;
+use std::io::Error;
 
 // What the program ends with where a file could not be read, written or taken.
 const FAILED: i32 = 100;
@@ -24,22 +27,23 @@ fn about(out: &mut [u8], name: &[u8], what: &[u8]) -> usize
 }
 
 // What is wrong with a file, and the system's own reason for it.
-pub fn trouble(name: &[u8], what: &[u8]) -> i32
+pub fn trouble(rt: &HostRuntime, name: &[u8], what: &[u8], error: Error) -> i32
     ensures { result ≡ pos 100 }
 {
     let mut out = [0u8; 8192];
-    let count = about(&mut out, name, what);
-    os::fail(&out[..count]);
+    let told = about(&mut out, name, what);
+    let count = add_reason(&mut out, told, error);
+    say(rt, &mut out, count);
     FAILED
 }
 
 // What is wrong with a file, where the program itself has the reason.
-pub fn refused(name: &[u8], what: &[u8]) -> i32
+pub fn refused(rt: &HostRuntime, name: &[u8], what: &[u8]) -> i32
     ensures { result ≡ pos 100 }
 {
     let mut out = [0u8; 8192];
     let count = about(&mut out, name, what);
-    say(&mut out, count);
+    say(rt, &mut out, count);
     FAILED
 }
 
@@ -53,12 +57,12 @@ fn wrong_word(out: &mut [u8], command: &[u8], word: &[u8], rule: &[u8]) -> usize
 }
 
 // Which word is wrong, and by which rule; and where the rules stand.
-pub fn wrong(command: &[u8], word: &[u8], rule: &[u8]) -> i32
+pub fn wrong(rt: &HostRuntime, command: &[u8], word: &[u8], rule: &[u8]) -> i32
     ensures { result ≡ pos 101 }
 {
     let mut out = [0u8; 8192];
     let count = wrong_word(&mut out, command, word, rule);
-    say(&mut out, count);
+    say(rt, &mut out, count);
     let shown = four(
         &mut out,
         b"csalgodes: 'csalgodes help ",
@@ -66,6 +70,6 @@ pub fn wrong(command: &[u8], word: &[u8], rule: &[u8]) -> i32
         b"' says how it is used",
         b"",
     );
-    say(&mut out, shown);
+    say(rt, &mut out, shown);
     MISUSED
 }

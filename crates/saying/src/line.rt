@@ -2,6 +2,8 @@
 ghost use Rattle.std.specs.Prelude.{◌≡◌, min};
 ghost use Rattle.io.specs.Counts.{IsPrefixLen};
 
+use system::output::{Stream, put};
+
 // The smaller of two.
 fn least(a: usize, b: usize) -> usize
     ensures { result ≡ min a b }
@@ -60,11 +62,11 @@ fn end(out: &mut [u8], count: usize) -> usize
 }
 
 // Ends the line and writes it, to standard error or where told.
-pub fn tell(to: i32, out: &mut [u8], count: usize) -> bool {
+pub fn tell(rt: &HostRuntime, to: Stream, out: &mut [u8], count: usize) -> bool {
     let whole = end(out, count);
-    io::write_all(to, &out[..whole])
+    put(rt, to, &out[..whole]).is_ok()
 }
 
-pub fn say(out: &mut [u8], count: usize) {
-    tell(libc::STDERR_FILENO, out, count);
+pub fn say(rt: &HostRuntime, out: &mut [u8], count: usize) {
+    tell(rt, Stream::Error, out, count);
 }

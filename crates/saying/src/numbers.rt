@@ -54,7 +54,7 @@ fn add_entry(out: &mut [u8], at: usize, text: &[u8], number: usize) -> usize
 }
 
 // Says what a number means. Of 0 there is nothing to say.
-pub fn explain(number: u32, place: u32) {
+pub fn explain(rt: &HostRuntime, number: u32, place: u32) {
     if number == 0 {
         return;
     }
@@ -64,5 +64,5 @@ pub fn explain(number: u32, place: u32) {
     let next = add_block(&mut out, numbered, number, place);
     let colon = add(&mut out, next, b": ");
     let count = add_entry(&mut out, colon, &WORDS, number as usize);
-    say(&mut out, count);
+    say(rt, &mut out, count);
 }
