@@ -1,7 +1,6 @@
 //! The proved library, called through its C header in a process of its own.
 //!
-//! The library is compiled for x86-64 alone. A process lets the same tests run beside it on any
-//! machine that can run it at all, emulated or not, and a call that crashed would be seen as one.
+//! So a call that crashed would be seen as one.
 //!
 //! A request is the call's number, whether empty parts are lent as NULL, ten numbers and the sizes of
 //! three parts, then the parts. The reply is nine numbers, then each part as the call left it,

@@ -13,8 +13,7 @@ pub struct CompareResult {
     pub count: u32,
 }
 
-#[unsafe(no_mangle)]
-pub extern "C" fn cs_compare(
+pub fn cs_compare(
     t: u32,
     f: u32,
     n: u32,

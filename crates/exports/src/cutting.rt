@@ -6,8 +6,7 @@ ghost use Rattle.exports.specs.Told.{as_told};
 use crate::told::as_told;
 use cut::secret::cut;
 
-#[unsafe(no_mangle)]
-pub extern "C" fn cs_cut(
+pub fn cs_cut(
     t: u32,
     f: u32,
     n: u32,

@@ -50,8 +50,7 @@ fn as_move(
     }
 }
 
-#[unsafe(no_mangle)]
-pub extern "C" fn cs_move_cut(
+pub fn cs_move_cut(
     old_t: u32,
     old_f: u32,
     old_n: u32,
@@ -76,8 +75,7 @@ pub extern "C" fn cs_move_cut(
     }
 }
 
-#[unsafe(no_mangle)]
-pub extern "C" fn cs_move_weigh(
+pub fn cs_move_weigh(
     old_t: u32,
     old_f: u32,
     old_n: u32,

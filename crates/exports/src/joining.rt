@@ -17,8 +17,7 @@ pub struct JoinResult {
     pub trials: u32,
 }
 
-#[unsafe(no_mangle)]
-pub extern "C" fn cs_join(
+pub fn cs_join(
     t: u32,
     f: u32,
     n: u32,

@@ -14,8 +14,7 @@ pub struct StoreResult {
     pub place: u32,
 }
 
-#[unsafe(no_mangle)]
-pub extern "C" fn cs_store(
+pub fn cs_store(
     t: u32,
     f: u32,
     n: u32,
@@ -33,8 +32,7 @@ pub extern "C" fn cs_store(
     }
 }
 
-#[unsafe(no_mangle)]
-pub extern "C" fn cs_fetch(t: u32, f: u32, n: u32, key: u32, keeper: u32, held: &[u8]) -> u32
+pub fn cs_fetch(t: u32, f: u32, n: u32, key: u32, keeper: u32, held: &[u8]) -> u32
     ensures { result ≡ fetch_number (as_told t f n key) keeper held.now }
 {
     fetch_number(as_told(t, f, n, key), keeper as usize, held)

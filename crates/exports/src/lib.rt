@@ -1,4 +1,4 @@
-// The public calls for C, Rust and Python: plain numbers and slices.
+// The public calls, of plain numbers and slices. The crate exports_c hands them to C, Rust and Python.
 #![tactic(auto)]
 
 pub mod comparing;

@@ -15,8 +15,7 @@ pub struct PickResult {
     pub length: u32,
 }
 
-#[unsafe(no_mangle)]
-pub extern "C" fn cs_pick(t: u32, f: u32, n: u32, key: u32, tray: &[u8]) -> PickResult
+pub fn cs_pick(t: u32, f: u32, n: u32, key: u32, tray: &[u8]) -> PickResult
     ensures { PickDone mod257 (as_told t f n key) tray.now (picked_as result) }
 {
     let picked = pick(as_told(t, f, n, key), tray);

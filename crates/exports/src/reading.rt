@@ -40,8 +40,7 @@ fn good(h: Head) -> ReadResult
     }
 }
 
-#[unsafe(no_mangle)]
-pub extern "C" fn cs_read(slot: &[u8]) -> ReadResult
+pub fn cs_read(slot: &[u8]) -> ReadResult
     ensures { result ≡ read_result (read_of slot.now) }
 {
     match reader::read(slot) {
