@@ -121,7 +121,7 @@ pick_same F {told} {tray} (pick.stuck number s k e never one J) (pick.stuck numb
     λ i. picked (numbers i) (same.0 i) (same.1 i)
 
 -- the report: the bytes, with the number that they end in
-report_of_same : {input bytes bytes' : List ℕ} {number number' : ℕ} → ReportOf input number bytes → ReportOf input number' bytes'
+report_of_same : {input : List ℕ} {number number' : ℕ} {bytes bytes' : List ℕ} → ReportOf input number bytes → ReportOf input number' bytes'
     → (number ≡ number') × (bytes ≡ bytes')
 report_of_same (short h) (short h') = (refl, refl)
 report_of_same (short h) (unpicked p whole D e) = absurd (omega arith)
