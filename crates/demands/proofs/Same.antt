@@ -30,7 +30,7 @@ use Rattle.compare.specs.Compare as compare
 use Rattle.lines.specs.Lines.{answer_line}
 use Rattle.report_text.specs.declared.answer.Answered.{Answered}
 use Rattle.report_text.specs.Report.{has_lines, ReportOf, short, unpicked, joined, Reported}
-use Rattle.demands.specs.JoinAnswers.{not_refused_order}
+use Rattle.demands.proofs.JoinAnswers.{not_refused_order}
 
 -- reading a slot
 pub read_same : (slot : List ℕ) {reading reading' : Reading} → reading ≡ read_of slot → reading' ≡ read_of slot → reading ≡ reading'
