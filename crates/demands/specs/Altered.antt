@@ -1,10 +1,8 @@
 -- A tray beside the cut's: which of its usable slots differ from the cut.
 -- Assumes nothing.
-use Rattle.std.specs.Prelude.{ℕ, ◌+◌, ◌*◌, ◌≤◌, ◌≡◌, Bool, not, ◌&&◌, List, ◌⊎◌}
-use Rattle.std.proofs.Common.{arith}
+use Rattle.std.specs.Prelude.{ℕ, ◌+◌, ◌*◌, ◌≤◌, Bool, not, ◌&&◌, List, ◌⊎◌}
 use Rattle.lists.specs.Below.{Below}
-use Rattle.lists.specs.Chosen.{chosen, length-chosen, count-chosen}
-use Rattle.lists.specs.Count.{count, count_not}
+use Rattle.lists.specs.Count.{count}
 use Rattle.lists.specs.From.{from}
 use Rattle.lists.specs.SameBytes.{same_bytes}
 use Rattle.header.specs.declared.told.Told.{Told}
@@ -30,11 +28,3 @@ unaltered_many told stamp l cut tray = count (unaltered told stamp l cut tray) (
 -- "if m is at least t+2f+1, and also for smaller m if at least t+f+1 usable letters are unaltered"
 abbrev pub EnoughLeft : Told → ℕ → ℕ → List ℕ → List ℕ → Type 0
 EnoughLeft told stamp l cut tray = (told.order.t + 2 * told.order.f + 1 ≤ usable_many told stamp l tray) ⊎ (told.order.t + told.order.f + 1 ≤ unaltered_many told stamp l cut tray)
-
--- the usable slots are those unaltered and those altered
-pub count-usable : (told : Told) (stamp l : ℕ) (cut tray xs : List ℕ)
-    → count (unaltered told stamp l cut tray) xs + count (altered told stamp l cut tray) xs ≡ count (usable told stamp l tray) xs
-count-usable told stamp l cut tray xs =
-    let u = usable told stamp l tray in
-    let s : ℕ → Bool = λ x. same_bytes (slot_of tray x) (slot_of cut x) in
-    omega (arith, count-chosen u s xs, count-chosen u (λ x. not (s x)) xs, count_not s (chosen u xs), length-chosen u xs)

@@ -1,21 +1,14 @@
 -- Where the numbers stand in a letter, and how the check weighs them, held to one letter whose numbers differ from each other. Exchanging two places
 -- in the writing and in the reading alike would leave every other theorem true.
 -- Assumes nothing.
-use Rattle.std.specs.Prelude.{ℕ, ◌≡◌, refl, true, List, [], ◌∷◌, ◌++◌, take, drop, replicate}
-use Rattle.lists.specs.Listed.{listed}
-use Rattle.lists.specs.Pieces.{pieces}
-use Rattle.lists.specs.Total.{total}
-use Rattle.algebra.specs.Poly.{eval}
+use Rattle.std.specs.Prelude.{ℕ, ◌≡◌, true, List, [], ◌∷◌, ◌++◌, take, drop, replicate}
 use Rattle.field.specs.Modulo.{mod257}
-use Rattle.block.specs.Check.{weighted_check, sealed}
-use Rattle.block.specs.Words.{bytes_of, words_of}
+use Rattle.block.specs.Check.{weighted_check}
+use Rattle.block.specs.Words.{words_of}
 use Rattle.header.specs.declared.told.Told.{Told}
 use Rattle.header.specs.Head.{head_words}
-use Rattle.header.specs.Order.{lawful_order}
 use Rattle.header.specs.Told.{lawful_told}
-use Rattle.format.specs.Letter.{blocks_for, block_shares, block_bytes, slot_bytes}
 use Rattle.tray.specs.Tray.{head_for}
-use Rattle.shares.specs.Shares.{share_words}
 use Rattle.cut.specs.Cut.{letter_of}
 
 -- t=3, f=2, n=14, key 8
@@ -54,7 +47,3 @@ pub record Layout : Type 0 where
   pub later : drop 10 (head_words 81 0 (head_for told stamp 259 5) 1) ≡ 1 ∷ 3 ∷ 1 ∷ 8 ∷ 0 ∷ 0 ∷ []
   -- the weights 3^128 and 3^253 modulo 257
   pub weights : (weight 128 ≡ 256) × (weight 253 ≡ 238)
-
-pub layout : Layout
-unfolding lawful_told lawful_order letter_of slot_bytes pieces blocks_for block_bytes block_shares head_words sealed listed total bytes_of words_of share_words eval
-layout = record { lawful = refl; header = refl; shares = refl; checks = refl; first_bytes = refl; rest = refl; later = refl; weights = (refl, refl) }

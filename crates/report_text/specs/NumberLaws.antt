@@ -39,18 +39,24 @@ one_or_four false = omega arith
 short_most : (input : List ℕ) → short_number input ≤ 8
 short_most input = one_or_four (ltb (length input) 3 || lawful_order (order_in input))
 
+most_of : (input : List ℕ) (number : ℕ) (bytes : List ℕ) → ReportOf input number bytes → number ≤ 8
+most_of input number bytes (short h) = short_most input
+most_of input number bytes (unpicked p whole D e) = pick_number D
+most_of input number bytes (joined p result left whole D e J) = join_number J
+
 pub number_most : {input bytes : List ℕ} {number : ℕ} → ReportOf input number bytes → number ≤ 8
-number_most {input} (short h) = short_most input
-number_most (unpicked p whole D e) = pick_number D
-number_most (joined p result left whole D e J) = join_number J
+number_most {input} {bytes} {number} R = most_of input number bytes R
 
 ends_in : (a b c last : List ℕ) → (front : List ℕ) × (a ++ (b ++ (c ++ last)) ≡ front ++ last)
 ends_in a b c last = (a ++ (b ++ c), sym (append_assoc a (b ++ c) last ∙ ap (a ++◌) (append_assoc b c last)))
 
+last_of : (input : List ℕ) (number : ℕ) (bytes : List ℕ) → ReportOf input number bytes → (front : List ℕ) × (bytes ≡ front ++ answer_line number)
+unfolding lines
+last_of input number bytes (short h) = ([], refl)
+last_of input number bytes (unpicked p whole D e) = ([], refl)
+last_of input number bytes (joined p result left whole D e J) =
+    ends_in (key_line (told_in input).key p.stamp p.length) (keeper_lines (told_in input) (tray_in input) p.stamp p.length result) (count_line result.usable result.need (ones result.set)) (answer_line result.number)
+
 -- a report's last line says its number
 pub last_line : {input bytes : List ℕ} {number : ℕ} → ReportOf input number bytes → (front : List ℕ) × (bytes ≡ front ++ answer_line number)
-unfolding lines
-last_line (short h) = ([], refl)
-last_line (unpicked p whole D e) = ([], refl)
-last_line {input} (joined p result left whole D e J) =
-    ends_in (key_line (told_in input).key p.stamp p.length) (keeper_lines (told_in input) (tray_in input) p.stamp p.length result) (count_line result.usable result.need (ones result.set)) (answer_line result.number)
+last_line {input} {bytes} {number} R = last_of input number bytes R

@@ -20,7 +20,7 @@ use Rattle.moving.specs.declared.cutting.Cutting.{Cutting}
 use Rattle.moving.specs.declared.terms.Move.{Move}
 use Rattle.moving.specs.Cutting.{sub_tray, cut_refusal, move_cut_number, move_cut_place, MoveCutDone}
 use Rattle.moving.specs.Move.{old_told, move_number}
-use Rattle.moved.specs.Handed.{old_keeper}
+use Rattle.moved.proofs.Handed.{old_keeper}
 use Rattle.moved.specs.Moved.{OneMove}
 use Rattle.moved.specs.TheMove.{held_in}
 

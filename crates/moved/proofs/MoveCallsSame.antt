@@ -8,7 +8,7 @@ use Rattle.weighing.specs.Weighing.{WeighDone}
 use Rattle.exports.specs.declared.hosts.MoveCutResult.{MoveCutResult}
 use Rattle.exports.specs.declared.hosts.MoveWeighResult.{MoveWeighResult}
 use Rattle.exports.specs.Move.{cut_as, weighed_as}
-use Rattle.moved.specs.SameMoves.{move_cut_same, move_weigh_same}
+use Rattle.moved.proofs.SameMoves.{move_cut_same, move_weigh_same}
 
 pub cs_move_cut_same : {O : Ops} {m : Move} {keeper : ℕ} {letter random tray left left' : List ℕ} {result result' : MoveCutResult}
     → MoveCutDone O m keeper letter random tray (cut_as result) left → MoveCutDone O m keeper letter random tray (cut_as result') left' → (result ≡ result') × (left ≡ left')

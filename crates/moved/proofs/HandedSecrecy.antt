@@ -16,10 +16,11 @@ use Rattle.tray.specs.Tray.{slot_of}
 use Rattle.shares.specs.Shares.{share_words}
 use Rattle.cut.specs.LetterField.{LetterField}
 use Rattle.cut.specs.OneCut.{OneCut}
-use Rattle.demands.specs.SameShares.{GivesSame, shares_exactly_one, exactly_one_as}
+use Rattle.demands.specs.SameShares.{GivesSame}
+use Rattle.demands.proofs.SameShares.{shares_exactly_one, exactly_one_as}
 use Rattle.demands.specs.Secrecy.{AnyKeepers}
 use Rattle.moving.specs.Cutting.{sub_letter, sub_tray}
-use Rattle.moved.specs.SubLetters.{sub_reads, slot-sub}
+use Rattle.moved.proofs.SubLetters.{sub_reads, slot-sub}
 
 -- what a new keeper reads in its sub-letter
 shares-sub : {O : Ops} (F : LetterField O) {told : Told} {stamp : ℕ} {shares random : List ℕ} (C : OneCut O told stamp shares random) (from : ℕ) (small : from ≤ 256)

@@ -11,7 +11,7 @@ use Rattle.join.specs.Join.{JoinDone}
 use Rattle.moving.specs.declared.terms.Move.{Move}
 use Rattle.moving.specs.Move.{old_told}
 use Rattle.demands.specs.Altered.{AtMostAltered}
-use Rattle.demands.specs.Recovery.{demand_2}
+use Rattle.demands.proofs.Recovery.{demand_2}
 
 -- the old letters give a secret, and the new ones give the same: then it is the one that was cut
 pub checked_move : (m : Move) {stamp l : ℕ} {secret first old new room room' left left' : List ℕ} {result result' : Joined} → OneCut mod257 (old_told m) stamp secret first

@@ -9,7 +9,7 @@ use Rattle.algebra.specs.Mixed.{mixed_same, mixed_value}
 use Rattle.algebra.specs.Points.{Points}
 use Rattle.algebra.specs.Poly.{eval, Degree, degree_cons}
 use Rattle.shares.specs.ShareWords.{polynomial_of}
-use Rattle.moved.specs.CarriedPolynomials.{length_row, get_d_sums}
+use Rattle.moved.proofs.CarriedPolynomials.{length_row, get_d_sums}
 use Rattle.moved.specs.Moved.{weighted_sums}
 
 module _ {O : Ops} (F : IsField O) (froms : List ℕ) (t : ℕ) (P : Points O.q froms) (many : length froms ≡ suc t) where

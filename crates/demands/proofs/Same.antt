@@ -30,7 +30,7 @@ use Rattle.compare.specs.Compare as compare
 use Rattle.lines.specs.Lines.{answer_line}
 use Rattle.report_text.specs.declared.answer.Answered.{Answered}
 use Rattle.report_text.specs.Report.{has_lines, ReportOf, short, unpicked, joined, Reported}
-use Rattle.demands.specs.JoinAnswers.{not_refused_order}
+use Rattle.demands.proofs.JoinAnswers.{not_refused_order}
 
 -- reading a slot
 pub read_same : (slot : List ℕ) {reading reading' : Reading} → reading ≡ read_of slot → reading' ≡ read_of slot → reading ≡ reading'
@@ -121,7 +121,7 @@ pick_same F {told} {tray} (pick.stuck number s k e never one J) (pick.stuck numb
     λ i. picked (numbers i) (same.0 i) (same.1 i)
 
 -- the report: the bytes, with the number that they end in
-report_of_same : {input bytes bytes' : List ℕ} {number number' : ℕ} → ReportOf input number bytes → ReportOf input number' bytes'
+report_of_same : {input : List ℕ} {number number' : ℕ} {bytes bytes' : List ℕ} → ReportOf input number bytes → ReportOf input number' bytes'
     → (number ≡ number') × (bytes ≡ bytes')
 report_of_same (short h) (short h') = (refl, refl)
 report_of_same (short h) (unpicked p whole D e) = absurd (omega arith)

@@ -10,12 +10,15 @@ use Rattle.cut.specs.OneCut.{OneCut}
 use Rattle.join.specs.declared.Joined.{Joined}
 use Rattle.join.specs.Join.{JoinDone}
 use Rattle.demands.specs.Altered.{EnoughLeft, AtMostAltered}
-use Rattle.demands.specs.Recovery.{GivesBack, demand_2}
-use Rattle.demands.specs.Secrecy.{AnyKeepers, GivesSameBytes, demand_3}
+use Rattle.demands.specs.Recovery.{GivesBack}
+use Rattle.demands.proofs.Recovery.{demand_2}
+use Rattle.demands.specs.Secrecy.{AnyKeepers, GivesSameBytes}
+use Rattle.demands.proofs.Secrecy.{demand_3}
 use Rattle.moving.specs.declared.terms.Move.{Move}
 use Rattle.moving.specs.Move.{old_told}
 use Rattle.moved.specs.Moved.{OneMove, moved_tray}
-use Rattle.moved.specs.TheMove.{held_in, the_move, the_move_cut}
+use Rattle.moved.specs.TheMove.{held_in}
+use Rattle.moved.proofs.TheMove.{the_move, the_move_cut}
 
 -- One move of one cut's letters: of `secret`, cut under the old order with `first`, moved by the old keepers `froms`, who draw `random`.
 module _ {m : Move} {stamp : ℕ} {secret first : List ℕ} (C : OneCut mod257 (old_told m) stamp secret first) (s : length secret ≡ m.length)

@@ -31,8 +31,8 @@ use Rattle.join.specs.Join.{hunt, hunted, join_refusal, JoinDone, refused, judge
 use Rattle.join.specs.Lowest.{hunt_lowest}
 use Rattle.join.specs.RefusalLaws.{refusal_most, accepted_facts}
 use Rattle.demands.specs.Altered.{unaltered, AtMostAltered}
-use Rattle.demands.specs.JoinAnswers.{not_refused_order}
-use Rattle.demands.specs.Recovery.{tried_unaltered}
+use Rattle.demands.proofs.JoinAnswers.{not_refused_order}
+use Rattle.demands.proofs.Recovery.{tried_unaltered}
 
 -- at most 16 letters are usable, and t+1 is at most 8
 module _ (told : Told) (stamp l : ℕ) (tray room : List ℕ) where

@@ -19,10 +19,12 @@ use Rattle.moving.specs.Move.{old_told}
 use Rattle.sub_letters.specs.declared.judging.Weighing.{Weighing}
 use Rattle.sub_letters.specs.Judging.{only}
 use Rattle.weighing.specs.Weighing.{WeighDone}
-use Rattle.moved.specs.CutAgain.{cut-letter_done}
+use Rattle.moved.proofs.CutAgain.{cut-letter_done}
 use Rattle.moved.specs.Moved.{OneMove, handed_to, carried_random}
-use Rattle.moved.specs.TheMove.{held_in, carried_secret}
-use Rattle.moved.specs.Weighed.{SameKeepers, weigh_done}
+use Rattle.moved.specs.TheMove.{held_in}
+use Rattle.moved.proofs.TheMove.{carried_secret}
+use Rattle.moved.specs.Weighed.{SameKeepers}
+use Rattle.moved.proofs.Weighed.{weigh_done}
 
 module _ {O : Ops} (F : LetterField O) {m : Move} {stamp : ℕ} {secret first : List ℕ} (C : OneCut O (old_told m) stamp secret first) (s : length secret ≡ m.length)
     {froms : List ℕ} {random : ℕ → List ℕ} (M : OneMove O m froms (held_in (cut_tray O (old_told m) stamp secret first) m.length froms) random) (later : stamp < m.stamp)

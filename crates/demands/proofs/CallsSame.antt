@@ -22,7 +22,7 @@ use Rattle.exports.specs.Join.{joined_as}
 use Rattle.exports.specs.Pick.{picked_as}
 use Rattle.exports.specs.Read.{read_result}
 use Rattle.exports.specs.Store.{stored_as}
-use Rattle.demands.specs.Same.{join_same, store_same, pick_same, compare_same}
+use Rattle.demands.proofs.Same.{join_same, store_same, pick_same, compare_same}
 
 pub cs_read_same : (slot : List ℕ) {result result' : ReadResult} → result ≡ read_result (read_of slot) → result' ≡ read_result (read_of slot) → result ≡ result'
 cs_read_same slot e e' = e ∙ sym e'

@@ -20,8 +20,8 @@ use Rattle.cut.specs.LetterField.{LetterField}
 use Rattle.moving.specs.declared.terms.Move.{Move}
 use Rattle.sub_letters.specs.Subs.{froms_of}
 use Rattle.weighing.specs.Weighing.{weighed_words, weighed_letter}
-use Rattle.moved.specs.CarriedPolynomials.{length-sums, sums_value}
-use Rattle.moved.specs.Handed.{shares_handed, froms_handed}
+use Rattle.moved.proofs.CarriedPolynomials.{length-sums, sums_value}
+use Rattle.moved.proofs.Handed.{shares_handed, froms_handed}
 use Rattle.moved.specs.Moved.{OneMove, handed_to, carried_words, carried_random}
 
 module _ {O : Ops} (F : LetterField O) {m : Move} {froms : List ℕ} {shares random : ℕ → List ℕ} (M : OneMove O m froms shares random)

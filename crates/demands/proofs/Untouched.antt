@@ -25,8 +25,9 @@ use Rattle.cut.specs.LetterField.{LetterField}
 use Rattle.cut.specs.OneCut.{OneCut, length-cut_tray, below_cut_tray, read_cut, shares_cut}
 use Rattle.join.specs.declared.Joined.{Joined}
 use Rattle.join.specs.Join.{answer, hunt, JoinDone}
-use Rattle.demands.specs.Altered.{unaltered, AtMostAltered, count-usable}
-use Rattle.demands.specs.Recovery.{gives_right, tried_unaltered}
+use Rattle.demands.specs.Altered.{unaltered, AtMostAltered}
+use Rattle.demands.proofs.Altered.{count-usable}
+use Rattle.demands.proofs.Recovery.{gives_right, tried_unaltered}
 
 module _ {O : Ops} (F : LetterField O) {told : Told} {stamp : ℕ} {secret random : List ℕ} (C : OneCut O told stamp secret random) where
   abbrev cut : List ℕ

@@ -24,7 +24,7 @@ use Rattle.moving.specs.declared.terms.Move.{Move}
 use Rattle.moving.specs.Cutting.{sub_letter, sub_tray}
 use Rattle.sub_letters.specs.Subs.{sub_reading, from_at, froms_of}
 use Rattle.moved.specs.Moved.{OneMove, handed_to}
-use Rattle.moved.specs.SubLetters.{sub_reads, slot-sub}
+use Rattle.moved.proofs.SubLetters.{sub_reads, slot-sub}
 
 slot-pieces : (f : ℕ → List ℕ) (n : ℕ) → ((i : ℕ) → i < n → length (f i) ≡ 2048) → (k : ℕ) → k < n → slot_of (pieces f n) (suc k) ≡ f k
 unfolding slot_of

@@ -12,10 +12,10 @@ use Rattle.cut.specs.Cut.{cut_tray}
 use Rattle.cut.specs.LetterField.{LetterField}
 use Rattle.cut.specs.OneCut.{OneCut}
 use Rattle.moving.specs.declared.terms.Move.{Move}
-use Rattle.moved.specs.CarriedPolynomials.{length-sums, below_sums}
-use Rattle.moved.specs.Handed.{new_order}
+use Rattle.moved.proofs.CarriedPolynomials.{length-sums, below_sums}
+use Rattle.moved.proofs.Handed.{new_order}
 use Rattle.moved.specs.Moved.{OneMove, moved_tray, carried_words, carried_random}
-use Rattle.moved.specs.MovedLetters.{weighed_letter_lem}
+use Rattle.moved.proofs.MovedLetters.{weighed_letter_lem}
 
 module _ {O : Ops} (F : LetterField O) {m : Move} {froms : List ℕ} {shares random : ℕ → List ℕ} (M : OneMove O m froms shares random) where
   -- the new tray is what one cut writes

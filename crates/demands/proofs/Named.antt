@@ -12,7 +12,7 @@ use Rattle.join.specs.Join.{join_refusal, JoinDone}
 use Rattle.pick.specs.declared.Picked.{Picked}
 use Rattle.pick.specs.Pick.{JoinGives, PickDone}
 use Rattle.pick.specs.Pick as pick
-use Rattle.demands.specs.JoinAnswers.{not_refused_order}
+use Rattle.demands.proofs.JoinAnswers.{not_refused_order}
 
 module _ {O : Ops} (F : LetterField O) {told : Told} {tray room left : List ℕ} {result : Joined} where
   given : {stamp l number : ℕ} → JoinGives O told tray stamp l number → length room ≡ l → JoinDone O told stamp l tray room result left → result.number ≡ number
