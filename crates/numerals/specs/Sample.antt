@@ -1,7 +1,7 @@
 -- The largest number and its neighbours, as words: 4294967295 is a number, 4294967296 is none, nor is a word of eleven digits or of none.
 -- And as lists: 1,3,12 is one of three numbers, and is none where only two are taken; a part that is empty is no number.
 -- Assumes nothing.
-use Rattle.std.specs.Prelude.{◌≡◌, refl, true, false, List, [], ◌∷◌, ℕ}
+use Rattle.std.specs.Prelude.{◌≡◌, refl, true, false, [], ◌∷◌}
 use Rattle.numerals.specs.Numeral.{all_digits, said_after, said, is_number}
 use Rattle.numerals.specs.Several.{onto, parts, all_numbers, is_list, listed}
 
