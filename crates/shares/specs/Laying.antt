@@ -4,7 +4,7 @@ use Rattle.std.specs.Prelude.{ℕ, ◌+◌, ◌-◌, ◌*◌, ◌≤◌, ◌≡�
 use Rattle.std.proofs.Math.Path.{sym}
 use Rattle.std.proofs.Common.{◌∙◌, add-one, length-append, length-drop, take_all}
 use mathlib.Core.List.{List, ◌++◌, append_assoc}
-use Rattle.std.proofs.Math.Nat.{add-sub_cancel_left, mul-zero, mul_one, mul-suc}
+use Rattle.std.proofs.Math.Nat.{add-sub_cancel_left, mul-zero, mul-one, mul-suc}
 use native.Mathlib.Omega.{arith}
 use Rattle.std.proofs.Math.ListN.{length}
 use Rattle.std.proofs.Math.Seq.{length-take-le, take_at}
@@ -34,7 +34,7 @@ module _ (n : ℕ) (f : ℕ → List ℕ) (total : ℕ) where
   laying_first old first within size one e =
       record {
         size = rw (length-append, length-drop) (omega arith);
-        laid = rw mul_one (take_at first (drop n old) n one ∙ e);
+        laid = rw mul-one (take_at first (drop n old) n one ∙ e);
       }
 
   pub laying_more : (now : List ℕ) (k : ℕ) (piece : List ℕ) → Laying k now → n * k + n ≤ total → length piece ≡ n → piece ≡ f k
