@@ -6,10 +6,10 @@ use header::order::Order;
 
 // Whether the random words and the room are as many as the order asks for l constants, each keeper having so much room.
 pub fn lent_right(o: Order, l: usize, words: usize, each: usize, room: usize) -> bool
-    requires fact_1 { o.t ≤ 7 }
-    requires fact_2 { o.n ≤ 16 }
-    requires fact_3 { l ≤ 952 }
-    requires fact_4 { each ≤ 2048 }
+    requires order_t { o.t ≤ 7 }
+    requires order_n { o.n ≤ 16 }
+    requires length { l ≤ 952 }
+    requires each { each ≤ 2048 }
     ensures { result ≡ lent_right o l words each room }
 {
     words == l * o.t && room == each * o.n
