@@ -21,12 +21,13 @@ pub fn usable_in(told: Told, stamp: u32, l: usize, tray: &[u8]) -> u16
 
 // The report of the join of what is picked.
 pub fn report_joined(told: Told, stamp: u32, l: usize, tray: &[u8], out: &mut [u8]) -> Answered
-    requires fact_1 { Joinable told l tray.now }
-    requires fact_2 { length out.old ≡ 512 }
+    requires joinable { Joinable told l tray.now }
+    requires out_size { length out.old ≡ 512 }
     ensures { JoinedReported told stamp l tray.now out.old result out.new }
 {
     let mut room = [0u8; 952];
     let joined = join(told, stamp, l, tray, &mut room[..l]);
+    let number = joined.number;
     let usable = usable_in(told, stamp, l, tray);
     let count = put_lines(
         out,
@@ -37,8 +38,5 @@ pub fn report_joined(told: Told, stamp: u32, l: usize, tray: &[u8], out: &mut [u
         usable,
         joined,
     );
-    Answered {
-        count,
-        number: joined.number,
-    }
+    Answered { count, number }
 }

@@ -26,8 +26,8 @@ fn standing_of(number: u32, usable: bool, matches: bool) -> Standing
 
 // Writes the line of keeper k + 1.
 fn put_keeper(out: &mut [u8], at: usize, number: u32, usable: u16, set: u16, k: usize) -> usize
-    requires fact_1 { k < 16 }
-    requires fact_2 { at + 64 ≤ length out.old }
+    requires keeper { k < 16 }
+    requires room { at + 64 ≤ length out.old }
     ensures { Written out.old at (line_of number usable set k) out.new result }
 {
     let stands = standing_of(number, has(usable, k), has(set, k));
@@ -36,8 +36,8 @@ fn put_keeper(out: &mut [u8], at: usize, number: u32, usable: u16, set: u16, k: 
 
 // Writes the lines of the keepers 1..n.
 pub fn put_keepers(out: &mut [u8], at: usize, n: usize, number: u32, usable: u16, set: u16) -> usize
-    requires fact_1 { n ≤ 16 }
-    requires fact_2 { at + 18 * 16 + 64 ≤ length out.old }
+    requires n_small { n ≤ 16 }
+    requires room { at + 18 * 16 + 64 ≤ length out.old }
     ensures { Written out.old at (pieces (line_of number usable set) n) out.new result }
 {
     let mut next = at;

@@ -25,9 +25,9 @@ fn has_lines(number: u32) -> bool
 
 // The report of an input that has an order and a key: of what is picked.
 fn report_picked(told: Told, input: &[u8], out: &mut [u8]) -> Answered
-    requires fact_1 { 4 ≤ length input.now }
-    requires fact_2 { told ≡ told_in input.now }
-    requires fact_3 { length out.old ≡ 512 }
+    requires input_room { 4 ≤ length input.now }
+    requires told_is { told ≡ told_in input.now }
+    requires out_size { length out.old ≡ 512 }
     ensures { Reported input.now out.old result out.new }
 {
     let tray = &input[4..];

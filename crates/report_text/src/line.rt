@@ -16,8 +16,8 @@ pub fn put_lines(
     usable: u16,
     joined: Joined,
 ) -> usize
-    requires fact_1 { n ≤ 16 }
-    requires fact_2 { length out.old ≡ 512 }
+    requires n_small { n ≤ 16 }
+    requires out_size { length out.old ≡ 512 }
     ensures { Written out.old 0 (lines_of n key stamp l usable joined) out.new result }
 {
     let keepers = put_key_line(out, 0, key, stamp, l);
