@@ -10,7 +10,7 @@ use Rattle.lists.specs.KeeperSet.{member, keeper_set}
 use Rattle.lists.specs.KeeperSetLaws.{member-keeper_set}
 use Rattle.algebra.specs.Field.{Ops}
 use Rattle.field.specs.Modulo.{mod257}
-use Rattle.field.specs.Laws.{mod257_field}
+use Rattle.field.proofs.Laws.{mod257_field}
 use Rattle.header.specs.declared.told.Told.{Told}
 use Rattle.format.specs.GoodWritten.{good_written}
 use Rattle.format.specs.Reading.{shares_of}

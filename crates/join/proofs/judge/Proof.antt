@@ -14,7 +14,7 @@ use Rattle.lists.specs.From.{from}
 use Rattle.lists.specs.KeeperSet.{member}
 use Rattle.lists.specs.KeeperSetLaws.{ones-member}
 use Rattle.field.specs.Modulo.{mod257}
-use Rattle.field.specs.Laws.{mod257_field}
+use Rattle.field.proofs.Laws.{mod257_field}
 use Rattle.weigh.specs.Weigh.{row_word}
 use Rattle.agree.specs.Kept.{Agreed}
 use Rattle.agree.specs.Rows.{row_word_lt}

@@ -8,7 +8,7 @@ use native.Mathlib.Omega.{arith}
 use borrow.Author.Rules.{rules}
 use Rattle.agree.specs.Rows.{Rows}
 use Rattle.field.specs.Modulo.{mod257}
-use Rattle.field.specs.Laws.{mod257_field}
+use Rattle.field.proofs.Laws.{mod257_field}
 use Rattle.pick.specs.RefusalLaws.{pick_facts}
 use Rattle.pick.proofs.Down.{Passed, passed_none, passed_joins, passed_more, passed_all, answered_bound}
 use Rattle.pick.proofs.LargeGroups.{next_below}

@@ -7,9 +7,9 @@ use Rattle.std.proofs.Math.Decide.{dec_lt}
 use Rattle.std.proofs.Math.Nat.{mod-mod}
 use Rattle.lists.specs.Modulus.{mod-mul-mod, mul-mod-mod}
 use Rattle.algebra.specs.Fraction.{inv-mul}
-use Rattle.field.specs.Laws.{mod257_field}
+use Rattle.field.proofs.Laws.{mod257_field}
 use Rattle.field.specs.Modulo.{mod257}
-use Rattle.field.specs.Table.{entry_zero}
+use Rattle.field.proofs.Table.{entry_zero}
 
 abbrev Splits : ℕ → ℕ → Type 0
 Splits a b = mod257.inv (mod257.mul a b) ≡ mod257.mul (mod257.inv a) (mod257.inv b)

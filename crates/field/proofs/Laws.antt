@@ -6,7 +6,7 @@ use Rattle.std.proofs.Math.Nat.{mod-add-mod, add-mod-mod}
 use Rattle.lists.specs.Modulus.{mod-mul-mod, mul-mod-mod}
 use Rattle.algebra.specs.Field.{IsField}
 use Rattle.field.specs.Modulo.{mod257}
-use Rattle.field.specs.Table.{entry_lt, product_one}
+use Rattle.field.proofs.Table.{entry_lt, product_one}
 
 pub mod257_field : IsField mod257
 mod257_field = record {
