@@ -51,8 +51,8 @@ fn answer(number: u32, rank: u64) -> Picked
 
 // The number of the join of a rank's group, with rows to work in.
 fn joined(told: Told, tray: &[u8], rank: u64, rows: &mut [u16]) -> u32
-    requires fact_1 { Joinable told tray.now rank }
-    requires fact_2 { Rows rows.old }
+    requires joinable { Joinable told tray.now rank }
+    requires rows { Rows rows.old }
     ensures { JoinGives mod257 told tray.now (stamp_in rank) (length_in rank) result × Rows rows.new }
 {
     let mut room = [0u8; 952];
@@ -71,10 +71,10 @@ fn is_first(number: u32, tried: u32) -> bool
 // Goes down the groups that the ranks tell of, to the first that joins. Where none does, the answer is of the first that is large: the join of one that
 // is not says 6.
 fn go_down(told: Told, tray: &[u8], ranks: &[u64], rows: &mut [u16]) -> Picked
-    requires fact_1 { pick_refusal told tray.now ≡ 0 }
-    requires fact_2 { RanksOf told tray.now ranks.now }
-    requires fact_3 { told.order.n ≤ length ranks.now }
-    requires fact_4 { Rows rows.old }
+    requires not_refused { pick_refusal told tray.now ≡ 0 }
+    requires ranks { RanksOf told tray.now ranks.now }
+    requires ranks_room { told.order.n ≤ length ranks.now }
+    requires rows { Rows rows.old }
     ensures { PickDone mod257 told tray.now result }
 {
     let least = told.order.t + told.order.f + 1;
