@@ -4,8 +4,8 @@ ghost use Rattle.block.specs.Check.{all_at_most};
 
 // Writes words that are bytes into a room for as many.
 pub fn put_bytes(words: &[u16], room: &mut [u8])
-    requires fact_1 { all_at_most 255 words.now ≡ true }
-    requires fact_2 { length words.now ≡ length room.old }
+    requires bytes { all_at_most 255 words.now ≡ true }
+    requires same_size { length words.now ≡ length room.old }
     ensures { room.new ≡ words.now }
 {
     let mut i = 0;

@@ -43,10 +43,10 @@ fn answer(number: u32, m: u32, need: u32, set: u16, trials: u32) -> Joined
 
 // The outcome of the usable letters, whose words stand in the rows.
 fn judge(t: usize, f: usize, usable: u16, rows: &[u16], room: &mut [u8]) -> Joined
-    requires fact_1 { Rows rows.now }
-    requires fact_2 { t ≤ 7 }
-    requires fact_3 { f ≤ t }
-    requires fact_4 { length room.old ≤ 952 }
+    requires rows { Rows rows.now }
+    requires t_small { t ≤ 7 }
+    requires f_small { f ≤ t }
+    requires room_small { length room.old ≤ 952 }
     ensures { Outcome mod257 t f 16 (member usable) (row_word rows.now) (length room.old) room.old result room.new }
 {
     let m = u16::count_ones(usable);
@@ -75,8 +75,8 @@ pub fn join_over(
     rows: &mut [u16],
     room: &mut [u8],
 ) -> Joined
-    requires fact_1 { join_refusal told stamp l tray.now room.old ≡ 0 }
-    requires fact_2 { Rows rows.old }
+    requires not_refused { join_refusal told stamp l tray.now room.old ≡ 0 }
+    requires rows { Rows rows.old }
     ensures { JoinDone mod257 told stamp l tray.now room.old result room.new × Rows rows.new }
 {
     let usable = scan(told, stamp, l, tray, rows);

@@ -13,11 +13,11 @@ use block::bounds::within;
 // Writes the constants of the polynomials that a set of keepers matches, if each is a byte, and gives the number: 0, or 8 where one is not. The
 // row is room to work in.
 pub fn reveal(t: usize, set: u16, rows: &[u16], row: &mut [u16], room: &mut [u8]) -> u32
-    requires fact_1 { Rows rows.now }
-    requires fact_2 { t ≤ 7 }
-    requires fact_3 { t + 1 ≤ ones set }
-    requires fact_4 { length row.old ≤ 952 }
-    requires fact_5 { length row.old ≡ length room.old }
+    requires rows { Rows rows.now }
+    requires t_small { t ≤ 7 }
+    requires enough { t + 1 ≤ ones set }
+    requires row_small { length row.old ≤ 952 }
+    requires same_size { length row.old ≡ length room.old }
     ensures { Reveals mod257 t 16 set (row_word rows.now) room.old result room.new }
 {
     constants_of(t, set, rows, row);
