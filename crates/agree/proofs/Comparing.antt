@@ -1,18 +1,18 @@
 -- Rows compared, keeper by keeper, with those carried from a base.
 -- Assumes nothing.
-use Prim.Native.Nat.{ℕ, ◌+◌, ◌≤◌, ◌<◌}
+use Prim.Native.Nat.{ℕ, ◌+◌, ◌≤◌}
 use mathlib.Core.Path.{◌≡◌, subst}
-use mathlib.Core.Bool.{Bool, false}
+use mathlib.Core.Bool.{Bool}
 use mathlib.Core.List.{List}
 use native.Mathlib.Omega.{arith}
 use lib.ListN.{length, get_or, take}
 use lib.Seq.{get_or-take, length-take-le}
 use Rattle.field.specs.Laws.{mod257_field}
 use Rattle.field.specs.Modulo.{mod257}
-use Rattle.weigh.specs.Weigh.{carried, row_word, Carriage}
+use Rattle.weigh.specs.Weigh.{row_word, Carriage}
 use Rattle.search.specs.Base.{Base, base_length, base_keepers, keeper_points}
-use Rattle.agree.specs.InStepLaws.{Compared, compared-start, compared-other, compared_next, compared_end}
-use Rattle.agree.specs.Kept.{Alike, InStep}
+use Rattle.agree.specs.InStepLaws.{Compared, compared-start, compared_end}
+use Rattle.agree.specs.Kept.{InStep}
 use Rattle.agree.specs.Rows.{Rows, row_word_lt}
 
 pub record Comparing (t : ℕ) (set : ℕ → Bool) (rows : List ℕ) (start l : ℕ) (xs row : List ℕ) (end k : ℕ) : Type 0 where
@@ -27,7 +27,7 @@ pub record Comparing (t : ℕ) (set : ℕ → Bool) (rows : List ℕ) (start l :
 last : (t : ℕ) (who : List ℕ) → get_or (take (t + 1) who) t 0 ≡ get_or who t 0
 last t who = get_or-take (t + 1) who t 0 (omega arith)
 
-pub last_keeper : {t : ℕ} {set : ℕ → Bool} (who : List ℕ) → Base t 16 set (take (t + 1) who) → get_or who t 0 ≤ 16
+last_keeper : {t : ℕ} {set : ℕ → Bool} (who : List ℕ) → Base t 16 set (take (t + 1) who) → get_or who t 0 ≤ 16
 last_keeper {t} who b = let k = base_keepers b t (omega (arith, base_length b)) in omega (arith, last t who)
 
 module _ {t : ℕ} {set : ℕ → Bool} {rows : List ℕ} {start l : ℕ} (R : Rows rows) where
@@ -45,7 +45,7 @@ module _ {t : ℕ} {set : ℕ → Bool} {rows : List ℕ} {start l : ℕ} (R : R
   }
 
   module _ {xs row : List ℕ} {end k : ℕ} (c : Comparing t set rows start l xs row end k) where
-    pub comparing_part : l ≤ 952 → length (take end row) ≡ end
+    comparing_part : l ≤ 952 → length (take end row) ≡ end
     comparing_part h = length-take-le end row (omega (arith, c.ends, c.room))
 
     pub comparing_carriage : t ≤ 7 → l ≤ 952 → Carriage xs rows (take end row)
@@ -56,30 +56,6 @@ module _ {t : ℕ} {set : ℕ → Bool} {rows : List ℕ} {start l : ℕ} (R : R
       words = R.words;
       room = omega (arith, comparing_part h, c.ends);
     }
-
-    pub comparing_other : (row' : List ℕ) (end' : ℕ) → k < 16 → set (k + 1) ≡ false → row' ≡ row → end' ≡ end → Comparing t set rows start l xs row' end' (k + 1)
-    comparing_other row' end' h e r s = rw (r, s) (record {
-      room = c.room;
-      starts = c.starts;
-      ends = c.ends;
-      within = omega arith;
-      base = c.base;
-      compared = compared-other c.compared e;
-    })
-
-    pub comparing_next : (row' : List ℕ) (end' : ℕ) → l ≤ 952 → k < 16 → length row' ≡ 952
-        → Alike (λ j. carried mod257 xs (λ a. row_word rows a j) (k + 1)) (row_word rows (k + 1)) start (length (take end row)) end'
-        → Comparing t set rows start l xs row' end' (k + 1)
-    comparing_next row' end' small h r a =
-        let a' = rw (comparing_part small) at a in
-        record {
-          room = r;
-          starts = a.starts;
-          ends = omega (arith, a'.ends, c.ends);
-          within = omega arith;
-          base = c.base;
-          compared = compared_next c.compared a';
-        }
 
     pub comparing_end : 16 ≤ k → InStep mod257 t 16 set (row_word rows) start l end
     comparing_end h =

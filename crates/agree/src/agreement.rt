@@ -27,8 +27,8 @@ pub fn need_of(m: u32, t: usize, f: usize) -> u32
 
 // Word i of every keeper's row.
 fn column(rows: &[u16], i: usize) -> [u16; 16]
-    requires fact_1 { Rows rows.now }
-    requires fact_2 { i < 952 }
+    requires rows { Rows rows.now }
+    requires word_within { i < 952 }
     ensures { result ≡ listed (λ k. get_or rows.now (952 * k + i) 0) 16 }
 {
     let mut words = [0u16; 16];
@@ -42,11 +42,11 @@ fn column(rows: &[u16], i: usize) -> [u16; 16]
 
 // The keepers of a set that match, at word i, a polynomial that enough of them match, or none where there is no such polynomial.
 fn narrowed(t: usize, needed: u32, set: u16, rows: &[u16], i: usize) -> u16
-    requires fact_1 { Rows rows.now }
-    requires fact_2 { i < 952 }
-    requires fact_3 { t ≤ 7 }
-    requires fact_4 { t + 1 ≤ needed }
-    requires fact_5 { needed ≤ ones set }
+    requires rows { Rows rows.now }
+    requires word_within { i < 952 }
+    requires t_small { t ≤ 7 }
+    requires needed_enough { t + 1 ≤ needed }
+    requires needed_there { needed ≤ ones set }
     ensures { Narrows mod257 t 16 needed (member set) (λ x. row_word rows.now x i) result }
 {
     let words = column(rows, i);
@@ -56,11 +56,11 @@ fn narrowed(t: usize, needed: u32, set: u16, rows: &[u16], i: usize) -> u16
 
 // The keepers that agree: all that match the only polynomials that enough match, or none where there are no such polynomials.
 pub fn agreement(t: usize, f: usize, usable: u16, rows: &[u16], l: usize) -> u16
-    requires fact_1 { Rows rows.now }
-    requires fact_2 { t ≤ 7 }
-    requires fact_3 { f ≤ t }
-    requires fact_4 { l ≤ 952 }
-    requires fact_5 { t + f + 1 ≤ count (member usable) (from 1 16) }
+    requires rows { Rows rows.now }
+    requires t_small { t ≤ 7 }
+    requires f_small { f ≤ t }
+    requires length_small { l ≤ 952 }
+    requires enough { t + f + 1 ≤ count (member usable) (from 1 16) }
     ensures { Found mod257 t f 16 (member usable) (row_word rows.now) l result }
 {
     let needed = need_of(u16::count_ones(usable), t, f);

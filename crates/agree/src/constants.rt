@@ -11,10 +11,10 @@ use weigh::carry_row;
 
 // Carries the words of the first t + 1 keepers of the set to 0.
 pub fn constants_of(t: usize, set: u16, rows: &[u16], row: &mut [u16])
-    requires fact_1 { Rows rows.now }
-    requires fact_2 { t ≤ 7 }
-    requires fact_3 { t + 1 ≤ ones set }
-    requires fact_4 { length row.old ≤ 952 }
+    requires rows { Rows rows.now }
+    requires t_small { t ≤ 7 }
+    requires enough { t + 1 ≤ ones set }
+    requires row_room { length row.old ≤ 952 }
     ensures { Recovers mod257 t 16 set (row_word rows.now) (length row.old) row.new }
 {
     let base = first(set, t);

@@ -29,8 +29,8 @@ fn same_words(a: &[u16], b: &[u16]) -> bool
 
 // The first place from `start` on at which two rows of one length differ, or their length. Most rows that are compared are the same.
 fn difference(a: &[u16], b: &[u16], start: usize) -> usize
-    requires fact_1 { length a.now ≡ length b.now }
-    requires fact_2 { start ≤ length a.now }
+    requires same_size { length a.now ≡ length b.now }
+    requires start_within { start ≤ length a.now }
     ensures { Alike (λ j. get_or a.now j 0) (λ j. get_or b.now j 0) start (length a.now) result }
 {
     if same_words(a, b) {
@@ -48,9 +48,9 @@ fn difference(a: &[u16], b: &[u16], start: usize) -> usize
 
 // How far, from `start` on, the row of keeper k + 1 is the one carried to it from the points, which is left in `row`.
 fn row_in_step(points: &[u16], rows: &[u16], k: usize, start: usize, row: &mut [u16]) -> usize
-    requires fact_1 { Carriage points.now rows.now row.old }
-    requires fact_2 { k < 16 }
-    requires fact_3 { start ≤ length row.old }
+    requires carriage { Carriage points.now rows.now row.old }
+    requires keeper { k < 16 }
+    requires start_within { start ≤ length row.old }
     ensures { Alike (λ j. carried mod257 points.now (λ a. row_word rows.now a j) (k + 1)) (row_word rows.now (k + 1)) start (length row.old) result }
 {
     carry_row(points, rows, k as u16 + 1, row);
@@ -61,10 +61,10 @@ fn row_in_step(points: &[u16], rows: &[u16], k: usize, start: usize, row: &mut [
 
 // A word from `start` on, up to which the keepers of the set are in step: at each word before it they lie on one polynomial.
 pub fn in_step(t: usize, set: u16, rows: &[u16], start: usize, l: usize) -> usize
-    requires fact_1 { t ≤ 7 }
-    requires fact_2 { t + 1 ≤ ones set }
-    requires fact_3 { Rows rows.now }
-    requires fact_4 { (start ≤ l) × (l ≤ 952) }
+    requires t_small { t ≤ 7 }
+    requires enough { t + 1 ≤ ones set }
+    requires rows { Rows rows.now }
+    requires bounds { (start ≤ l) × (l ≤ 952) }
     ensures { InStep mod257 t 16 (member set) (row_word rows.now) start l result }
 {
     let base = first(set, t);

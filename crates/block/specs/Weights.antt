@@ -1,8 +1,6 @@
--- The weights of a block's words: the table, its rule tested once over all entries, and what that says at each index.
+-- The weights of a block's words: the table.
 -- Assumes nothing.
-use Rattle.std.specs.Prelude.{ℕ, ◌%◌, ◌^◌, ◌<◌, ◌≡◌, refl, Bool, true, List, [], ◌∷◌, eqb, length, get_or}
-use Rattle.std.proofs.Common.{eqb-true}
-use Rattle.lists.specs.Every.{every, every-at}
+use Rattle.std.specs.Prelude.{ℕ, List, [], ◌∷◌}
 
 -- "a table of 254 numbers"
 unfoldable pub weights : List ℕ
@@ -23,24 +21,3 @@ weights =
     129 ∷ 130 ∷ 133 ∷ 142 ∷ 169 ∷ 250 ∷ 236 ∷ 194 ∷ 68 ∷ 204 ∷ 98 ∷ 37 ∷ 111 ∷ 76 ∷ 228 ∷ 170 ∷
     253 ∷ 245 ∷ 221 ∷ 149 ∷ 190 ∷ 56 ∷ 168 ∷ 247 ∷ 227 ∷ 167 ∷ 244 ∷ 218 ∷ 140 ∷ 163 ∷ 232 ∷ 182 ∷
     32 ∷ 96 ∷ 31 ∷ 93 ∷ 22 ∷ 66 ∷ 198 ∷ 80 ∷ 240 ∷ 206 ∷ 104 ∷ 55 ∷ 165 ∷ 238 ∷ []
-
-pub length-weights : length weights ≡ 254
-unfolding weights
-length-weights = refl
-
--- "word i times 3^i, .. modulo 257"
-abbrev is_weight : ℕ → ℕ → Bool
-is_weight i entry = eqb entry (3 ^ i % 257)
-
-tested : every is_weight 0 weights ≡ true
-unfolding weights
-tested = refl
-
-pub weight-at : (i : ℕ) → i < 254 → get_or weights i 0 ≡ 3 ^ i % 257
-unfolding weights
-weight-at i h = eqb-true _ _ (every-at is_weight weights tested i h)
-
--- "weight 128 is 256 and weight 253 is 238"
-pub known_weights : (get_or weights 128 0 ≡ 256) × (get_or weights 253 0 ≡ 238)
-unfolding weights
-known_weights = (refl, refl)

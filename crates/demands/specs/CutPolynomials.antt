@@ -1,6 +1,6 @@
 -- The cut's own polynomials: one for each constant.
 -- Assumes nothing.
-use Prim.Native.Nat.{ℕ, ◌*◌}
+use Prim.Native.Nat.{ℕ}
 use Rattle.std.specs.Prelude.{take, drop}
 use mathlib.Core.List.{List, [], ◌∷◌}
 

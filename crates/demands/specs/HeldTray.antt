@@ -1,6 +1,6 @@
 -- A tray in which keepers 1, 2 and so on hold letters of given share words, and the other slots are zeros.
 -- Assumes nothing.
-use Rattle.std.specs.Prelude.{ℕ, suc, ◌-◌, ◌<◌, ◌≡◌, true, cond, List, [], ltb, length, get_or}
+use Rattle.std.specs.Prelude.{ℕ, suc, ◌<◌, ◌≡◌, true, cond, List, [], ltb, length, get_or}
 use Rattle.lists.specs.Below.{Below}
 use Rattle.lists.specs.Pieces.{pieces}
 use Rattle.header.specs.declared.told.Told.{Told}

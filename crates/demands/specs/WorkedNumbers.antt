@@ -1,6 +1,6 @@
 -- "Numbers to hold it to": C1..C12, of the definitions.
 -- Assumes nothing.
-use Rattle.std.specs.Prelude.{ℕ, ◌-◌, ◌<◌, ◌≡◌, true, List, [], ◌∷◌, map, ◌↔◌, replicate}
+use Rattle.std.specs.Prelude.{ℕ, ◌<◌, ◌≡◌, true, List, [], ◌∷◌, map, ◌↔◌, replicate}
 use Rattle.lists.specs.From.{from}
 use Rattle.field.specs.Modulo.{mod257}
 use Rattle.block.specs.Check.{plain_check, weighted_check}

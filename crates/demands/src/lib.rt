@@ -1,2 +1,2 @@
-// The demands on the product, as theorems about its definitions. There is no code here: specs/ is the library.
+// The demands on the product, as theorems about its definitions. There is no code here: what the theorems speak of stands in specs/, they in proofs/.
 #![tactic(auto)]

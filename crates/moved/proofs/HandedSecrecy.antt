@@ -43,11 +43,11 @@ module _ {O : Ops} (F : LetterField O) {told : Told} {stamp : ℕ} {ks shares ra
       }
 
   -- another cutting, of the other words
-  cutting : (words : List ℕ) → length words ≡ length shares' * told.order.t → Below O.q words → OneCut O told stamp shares' words
-  cutting words size below = record {
+  cutting : length shares' ≡ length shares → (words : List ℕ) → length words ≡ length shares' * told.order.t → Below O.q words → OneCut O told stamp shares' words
+  cutting same words size below = record {
     of_words = record {
       order_lawful = C.of_words.order_lawful;
-      length_lawful = rw s C.of_words.length_lawful;
+      length_lawful = rw same C.of_words.length_lawful;
       constants_below = b;
       random_size = size;
       random_below = below;
@@ -64,6 +64,6 @@ module _ {O : Ops} (F : LetterField O) {told : Told} {stamp : ℕ} {ks shares ra
       exactly_one_as O told.order.t ks shares' _ _ _ _
       (λ words size below x m.
       let k = a_keeper x m in
-      let D = cutting words size below in
+      let D = cutting s words size below in
       (λ e. rw (slot-sub F D from small x k, slot-sub F C from small x k, s, e), λ e. cc (shares-sub F D from small x k, shares-sub F C from small x k)))
       (shares_exactly_one F.laws told.order.t ks K.many points shares shares' random (sym s) b)

@@ -1,6 +1,6 @@
 -- The new tray of a move, where one old keeper draws other random words.
 -- Assumes nothing.
-use Rattle.std.specs.Prelude.{ℕ, List, length}
+use Rattle.std.specs.Prelude.{ℕ, List}
 use Rattle.algebra.specs.Field.{Ops}
 use Rattle.cut.specs.Cut.{cut_tray}
 use Rattle.moving.specs.declared.terms.Move.{Move}

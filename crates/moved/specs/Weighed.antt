@@ -1,6 +1,6 @@
 -- Lists that name the same old keepers.
 -- Assumes nothing.
-use Rattle.std.specs.Prelude.{ℕ, ◌+◌, ◌≡◌, List}
+use Rattle.std.specs.Prelude.{ℕ, ◌≡◌, List}
 use Rattle.std.proofs.Math.ListN.{length}
 use Rattle.lists.specs.Different.{Different}
 use Rattle.lists.specs.Member.{In}

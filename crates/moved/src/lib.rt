@@ -1,2 +1,2 @@
-// The theorem of the move, and what it says of moved letters. There is no code here: specs/ is the library.
+// The theorem of the move, and what it says of moved letters. There is no code here: what the theorems speak of stands in specs/, they in proofs/.
 #![tactic(auto)]

@@ -7,8 +7,8 @@ use crate::rows::copy;
 
 // The coefficients of x^(j + 1): word j of each t random words.
 fn put_coefficients(random: &[u16], t: usize, j: usize, column: &mut [u16])
-    requires fact_1 { length random.now ≡ length column.old * t }
-    requires fact_2 { j < t }
+    requires as_many { length random.now ≡ length column.old * t }
+    requires within { j < t }
     ensures { column.new ≡ listed (λ i. get_or random.now (i * t + j) 0) (length column.old) }
 {
     let mut i = 0;
@@ -20,8 +20,8 @@ fn put_coefficients(random: &[u16], t: usize, j: usize, column: &mut [u16])
 
 // Lays the constants and the t columns of coefficients out, end to end.
 pub fn lay_out(constants: &[u16], random: &[u16], t: usize, columns: &mut [u16])
-    requires fact_1 { length random.now ≡ length constants.now * t }
-    requires fact_2 { length columns.old ≡ length constants.now * (t + 1) }
+    requires words { length random.now ≡ length constants.now * t }
+    requires room { length columns.old ≡ length constants.now * (t + 1) }
     ensures { columns.new ≡ columns_of t constants.now random.now }
 {
     let l = constants.len();

@@ -6,16 +6,17 @@ use header::order::Order;
 
 // Whether the random words and the room are as many as the order asks for l constants, each keeper having so much room.
 pub fn lent_right(o: Order, l: usize, words: usize, each: usize, room: usize) -> bool
-    requires fact_1 { o.t ≤ 7 }
-    requires fact_2 { o.n ≤ 16 }
-    requires fact_3 { l ≤ 952 }
-    requires fact_4 { each ≤ 2048 }
+    requires order_t { o.t ≤ 7 }
+    requires order_n { o.n ≤ 16 }
+    requires length { l ≤ 952 }
+    requires each { each ≤ 2048 }
     ensures { result ≡ lent_right o l words each room }
 {
     words == l * o.t && room == each * o.n
 }
 
 // 4 where the lengths are wrong, 5 where a word is; else 0.
+#[tactic(auto, using(std::proofs::lemmas::Bool::Decides::nat_tests))]
 pub fn lent_number(right: bool, words: bool) -> u32
     ensures { result ≡ cond right (cond words 0 5) 4 }
 {

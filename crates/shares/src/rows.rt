@@ -28,10 +28,10 @@ pub(crate) fn copy(column: &[u16], row: &mut [u16])
 
 // One step of Horner's rule, along a row. No word of it exceeds 256 * 16 + 256.
 fn step(row: &mut [u16], x: u16, column: &[u16])
-    requires fact_1 { length row.old ≡ length column.now }
-    requires fact_2 { Below 257 row.old }
-    requires fact_3 { Below 257 column.now }
-    requires fact_4 { x ≤ 16 }
+    requires as_long { length row.old ≡ length column.now }
+    requires row_words { Below 257 row.old }
+    requires column_words { Below 257 column.now }
+    requires keeper { x ≤ 16 }
     ensures { row.new ≡ listed (λ i. mod257.add (get_or column.now i 0) (mod257.mul x (get_or row.old i 0))) (length row.old) }
 {
     let mut i = 0;
@@ -43,9 +43,9 @@ fn step(row: &mut [u16], x: u16, column: &[u16])
 
 // The values at x of the polynomials across t + 1 columns, from the highest power down.
 pub fn share_row(columns: &[u16], t: usize, x: u16, row: &mut [u16])
-    requires fact_1 { length columns.now ≡ length row.old * (t + 1) }
-    requires fact_2 { Below 257 columns.now }
-    requires fact_3 { x ≤ 16 }
+    requires as_long { length columns.now ≡ length row.old * (t + 1) }
+    requires words { Below 257 columns.now }
+    requires keeper { x ≤ 16 }
     ensures { row.new ≡ values_from mod257 columns.now (length row.old) t x 0 }
 {
     let l = row.len();
@@ -61,10 +61,10 @@ pub fn share_row(columns: &[u16], t: usize, x: u16, row: &mut [u16])
 
 // The rows of keepers 1..n, each of l words, in their order.
 pub(crate) fn write_rows(columns: &[u16], t: usize, n: usize, l: usize, rows: &mut [u16])
-    requires fact_1 { length columns.now ≡ l * (t + 1) }
-    requires fact_2 { Below 257 columns.now }
-    requires fact_3 { n ≤ 16 }
-    requires fact_4 { length rows.old ≡ l * n }
+    requires as_long { length columns.now ≡ l * (t + 1) }
+    requires words { Below 257 columns.now }
+    requires keepers { n ≤ 16 }
+    requires room { length rows.old ≡ l * n }
     ensures { rows.new ≡ pieces (λ k. values_from mod257 columns.now l t (suc k) 0) n }
 {
     let mut k = 0;

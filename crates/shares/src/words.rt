@@ -35,8 +35,8 @@ fn refusal(o: Order, constants: &[u16], random: &[u16], rows: &[u16]) -> u32
 
 // Fills the rows of all keepers. The columns are room to work in.
 fn fill(o: Order, constants: &[u16], random: &[u16], columns: &mut [u16], rows: &mut [u16])
-    requires fact_1 { words_number o constants.now random.now rows.old ≡ 0 }
-    requires fact_2 { length columns.old ≡ length constants.now * (o.t + 1) }
+    requires right { words_number o constants.now random.now rows.old ≡ 0 }
+    requires room { length columns.old ≡ length constants.now * (o.t + 1) }
     ensures { rows.new ≡ share_rows mod257 o constants.now random.now }
 {
     lay_out(constants, random, o.t, columns);

@@ -5,7 +5,7 @@ use mathlib.Core.Path.{◌≡◌, refl, sym, ap, ◌∙◌}
 use mathlib.Core.Bool.{true, false, true≢false}
 use mathlib.Core.List.{List, ◌++◌}
 use mathlib.Core.Logic.{⊎_elim}
-use native.Mathlib.Nat.{eq-or-lt_of_le, one_mul}
+use native.Mathlib.Nat.{eq-or-lt_of_le, one-mul}
 use native.Mathlib.Omega.{arith}
 use lib.ListN.{length, get_or, take, drop, length-take, length-drop}
 use lib.Pow.{shl_exact}
@@ -58,7 +58,7 @@ module _ {told : Told} {stamp l : ℕ} {tray rows₀ : List ℕ} (asked : Scanna
       slot_size here = ap length here ∙ length-slot tray (k + 1) (omega arith) (omega (arith, asked))
 
       one_bit : 1 * 2 ^ k % 65536 ≡ 2 ^ k
-      one_bit = shl_exact {a = 1} 1 k 16 (omega arith) (omega (arith, asked)) ∙ one_mul (2 ^ k)
+      one_bit = shl_exact {a = 1} 1 k 16 (omega arith) (omega (arith, asked)) ∙ one-mul (2 ^ k)
 
       pub room_for_bit : set + 1 * 2 ^ k % 65536 < 65536
       room_for_bit =

@@ -15,8 +15,8 @@ const BINOMIALS: [u32; 153] = [
 
 // "keep the choose numbers in a small table"
 pub fn choose(m: usize, k: usize) -> u32
-    requires fact_1 { m ≤ 16 }
-    requires fact_2 { k ≤ 8 }
+    requires m_small { m ≤ 16 }
+    requires k_small { k ≤ 8 }
     ensures { (result ≡ choose m k) × (result ≤ 12870) }
 {
     let binomials = BINOMIALS;

@@ -36,8 +36,8 @@ fn counted(usable: u16, set: u16, lack: usize, next: usize, many: usize) -> u32
 
 // How many sets of t + 1 usable keepers are tried, in dictionary order, up to and including the first that lies within a set.
 pub fn trials_within(usable: u16, set: u16, t: usize) -> u32
-    requires fact_1 { t ≤ 7 }
-    requires fact_2 { t + 1 ≤ count (member set) (chosen (member usable) (from 1 16)) }
+    requires t_small { t ≤ 7 }
+    requires enough { t + 1 ≤ count (member set) (chosen (member usable) (from 1 16)) }
     ensures { result ≡ trials (within (member set)) (sets (chosen (member usable) (from 1 16)) (t + 1)) }
 {
     let many = u16::count_ones(usable) as usize;

@@ -2,7 +2,7 @@
 -- Assumes nothing.
 use Rattle.std.proofs.Common.{ℕ, ◌+◌, ◌*◌, ◌%◌, ◌^◌, ◌≤◌, ◌<◌, ◌≡◌, refl, ap, ◌∙◌, List, mul-le-mul, add-one, arith, length, get_or}
 use Rattle.block.specs.ExchangedLaws.{plain_minus, weighted_minus}
-use Rattle.block.specs.Weights.{length-weights, weight-at}
+use Rattle.block.proofs.WeightsLaws.{length-weights, weight-at}
 use Rattle.lists.specs.Total.{total}
 use native.Mathlib.Nat.{le-pred_of_lt}
 use Rattle.block.proofs.check.sums.Invariants.{Summed}
