@@ -4,8 +4,8 @@ use mathlib.Core.Path.{◌≡◌, sym, ◌∙◌}
 use native.Mathlib.Omega.{arith}
 use borrow.Author.Rules.{rules}
 use Rattle.compare.specs.Compare.{compare_refusal, refused, short, told}
-use Rattle.compare.specs.CompareLaws.{compare_facts}
-use Rattle.compare.specs.PartLaws.{beyond_enough, beyond_short}
+use Rattle.compare.proofs.CompareLaws.{compare_facts}
+use Rattle.compare.proofs.PartLaws.{beyond_enough, beyond_short}
 use Rattle.compare.proofs.Comparing.{trays_have_parts, found_size, found_within, found_few, found_below, words_are, laid_are, count_is}
 use Rattle.compare.proofs.compare.Statement.{statement}
 use Rattle.compare.proofs.compare.Tie as tie

@@ -3,7 +3,7 @@
 use mathlib.Core.Path.{sym}
 use native.Mathlib.Omega.{arith}
 use borrow.Author.Rules.{rules}
-use Rattle.compare.specs.PartLaws.{in_parts_most, beyond_none, beyond_all}
+use Rattle.compare.proofs.PartLaws.{in_parts_most, beyond_none, beyond_all}
 use Rattle.compare.proofs.too_many.Statement.{statement}
 use Rattle.compare.proofs.too_many.Tie as tie
 

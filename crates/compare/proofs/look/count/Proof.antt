@@ -7,7 +7,7 @@ use lib.ListN.{length, get_or, take}
 use lib.Seq.{take_all}
 use borrow.Author.Rules.{rules}
 use Rattle.compare.specs.Parts.{in_parts}
-use Rattle.compare.specs.PartLaws.{have_fewer, in_part_most, length_more}
+use Rattle.compare.proofs.PartLaws.{have_fewer, in_part_most, length_more}
 use Rattle.compare.proofs.look.count.Statement.{statement}
 use Rattle.compare.proofs.look.count.Tie as tie
 

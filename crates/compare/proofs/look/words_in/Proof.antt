@@ -10,7 +10,7 @@ use borrow.Author.Tests.{not-true, not-false}
 use Rattle.lists.specs.Chosen.{chosen}
 use Rattle.lists.specs.From.{from}
 use Rattle.compare.specs.Compare.{differs}
-use Rattle.compare.specs.CompareLaws.{differs-told}
+use Rattle.compare.proofs.CompareLaws.{differs-told}
 use Rattle.compare.specs.Parts.{in_part}
 use Rattle.compare.proofs.Turns.{CountedTo, counted_none, counted_most, counted_joined, counted_skipped}
 use Rattle.compare.proofs.look.words_in.Statement.{statement}

@@ -3,7 +3,7 @@
 use native.Mathlib.Omega.{arith}
 use borrow.Author.Rules.{rules}
 use Rattle.compare.specs.Compare.{difference}
-use Rattle.compare.specs.CompareLaws.{raw_word_lem}
+use Rattle.compare.proofs.CompareLaws.{raw_word_lem}
 use Rattle.compare.proofs.put.place.Statement.{statement}
 use Rattle.compare.proofs.put.place.Tie as tie
 

@@ -4,7 +4,7 @@ use Prim.Native.Nat.{◌-◌}
 use native.Mathlib.Omega.{arith}
 use lib.ListN.{length}
 use borrow.Author.Rules.{rules}
-use Rattle.compare.specs.PartLaws.{have_fewer}
+use Rattle.compare.proofs.PartLaws.{have_fewer}
 use Rattle.compare.proofs.Putting.{laid_size, LaidParts, parts_none, parts_all, parts-room, parts_more}
 use Rattle.compare.proofs.put.put.Statement.{statement}
 use Rattle.compare.proofs.put.put.Tie as tie

@@ -10,7 +10,7 @@ use Rattle.lists.specs.Chosen.{chosen}
 use Rattle.lists.specs.From.{from}
 use Rattle.compare.specs.Compare.{differs, difference}
 use Rattle.compare.specs.Parts.{in_part}
-use Rattle.compare.specs.CompareLaws.{differs-told}
+use Rattle.compare.proofs.CompareLaws.{differs-told}
 use Rattle.compare.proofs.Putting.{laid_size, LaidTo, to_none, to_all, to_skipped, to_room, to_joined}
 use Rattle.compare.proofs.put.put_part.Statement.{statement}
 use Rattle.compare.proofs.put.put_part.Tie as tie

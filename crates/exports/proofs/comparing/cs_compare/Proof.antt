@@ -2,7 +2,7 @@
 -- Assumes nothing.
 use native.Mathlib.Omega.{arith}
 use borrow.Author.Rules.{rules}
-use Rattle.compare.specs.CompareLaws.{count_most}
+use Rattle.compare.proofs.CompareLaws.{count_most}
 use Rattle.exports.proofs.comparing.cs_compare.Statement.{statement}
 use Rattle.exports.proofs.comparing.cs_compare.Tie as tie
 
