@@ -16,9 +16,9 @@ use Rattle.format.specs.GoodWritten.{good_written}
 use Rattle.format.specs.Reading.{shares_of}
 use Rattle.tray.specs.SlotLaws.{below_slot}
 use Rattle.tray.specs.Tray.{head_for, slot_of, usable, usable_many, word_of}
-use Rattle.tray.specs.UsableLaws.{usable_reads}
+use Rattle.tray.proofs.UsableLaws.{usable_reads}
 use Rattle.agree.specs.Agreement.{agreeing, reaching, Reaches}
-use Rattle.trials.specs.Binomials.{choose_most}
+use Rattle.trials.proofs.BinomialsLaws.{choose_most}
 use Rattle.trials.specs.Sets.{choose}
 use Rattle.trials.specs.Trials.{trials, FirstGood}
 use Rattle.trials.specs.Within.{within}

@@ -13,7 +13,7 @@ use Rattle.lists.specs.From.{from, from-add, from_in}
 use Rattle.lists.specs.SameBytes.{same_bytes_equal}
 use Rattle.block.specs.Words.{words_of}
 use Rattle.compare.specs.Compare.{differs}
-use Rattle.compare.specs.CompareLaws.{word_of_part, differs-words}
+use Rattle.compare.proofs.CompareLaws.{word_of_part, differs-words}
 use Rattle.compare.specs.Parts.{part_of, part_differs, in_part, in_parts, beyond, HaveParts}
 
 module _ (places many : ℕ) where
