@@ -42,8 +42,8 @@ fn pair(high: u8, low: u8) -> u16
 // Puts the word of a draw behind those that there are, if it is taken and has a place, and answers how many there are then.
 fn put(words: &mut [u16], count: usize, draw: u16) -> usize
     requires { Begun words.old count }
-    ensures fact_1 { Begun words.new result }
-    ensures fact_2 { Laid words.old count (words_drawn (draw ∷ [])) words.new result }
+    ensures begun { Begun words.new result }
+    ensures laid { Laid words.old count (words_drawn (draw ∷ [])) words.new result }
 {
     let outcome = drawn(draw);
     if !outcome.taken {
@@ -58,10 +58,10 @@ fn put(words: &mut [u16], count: usize, draw: u16) -> usize
 
 // Lays the words that the bytes of one call to the source give behind those that there are, as far as they go; answers how many there are then.
 fn fill_from(bytes: &[u8; 256], words: &mut [u16], from: usize) -> usize
-    requires fact_1 { Begun words.old from }
-    requires fact_2 { length bytes.now ≡ 256 }
-    ensures fact_1 { Begun words.new result }
-    ensures fact_2 { Laid words.old from (words_given bytes.now) words.new result }
+    requires begun { Begun words.old from }
+    requires bytes_len { length bytes.now ≡ 256 }
+    ensures begun { Begun words.new result }
+    ensures laid { Laid words.old from (words_given bytes.now) words.new result }
 {
     let mut count = from;
     let mut i = 0;

@@ -15,6 +15,8 @@ use pick::pick;
 use saving::save::said;
 use saying::line::{add, four, say};
 use showing::{put_key_line, put_same_line};
+use system::output::Stream;
+use system::words::word;
 use trays::comparing::fill;
 
 // What a tray gives: 0 with the stamp and the length of what was joined, or the number that says why not.
@@ -41,27 +43,27 @@ fn with_old_order(g: Given) -> Given {
     w
 }
 
-fn say_without(name: &[u8], side: &[u8]) {
+fn say_without(rt: &HostRuntime, name: &[u8], side: &[u8]) {
     let mut out = [0u8; 8192];
     let named = four(&mut out, b"csalgodes: ", name, b": the ", side);
     let count = add(&mut out, named, b" letters give no key");
-    say(&mut out, count);
+    say(rt, &mut out, count);
 }
 
 // Says which tray gives no key, and why.
-fn without_key(at: usize, side: &[u8], number: u32) -> i32 {
+fn without_key(rt: &HostRuntime, at: usize, side: &[u8], number: u32) -> i32 {
     let mut name = io::buffer();
-    let count = os::arg(at, &mut name);
-    say_without(&name[..count], side);
-    answered(number, 0)
+    let count = word(rt, at, &mut name).count;
+    say_without(rt, &name[..count], side);
+    answered(rt, number, 0)
 }
 
-fn say_key(side: &[u8], key: u32, stamp: u32, l: u32) -> bool
+fn say_key(rt: &HostRuntime, side: &[u8], key: u32, stamp: u32, l: u32) -> bool
     requires { length side.now ≤ 3 }
 {
     let mut out = [0u8; 128];
     let count = put_key_line(&mut out, side, key, stamp, l);
-    said(libc::STDOUT_FILENO, &out[..count])
+    said(rt, Stream::Output, &out[..count])
 }
 
 // Picks and joins, into a room for any key.
@@ -87,64 +89,73 @@ fn find(told: Told, tray: &[u8], room: &mut [u8]) -> Found
 }
 
 // Says what was found, and answers 0 where it is a key.
-fn say_found(g: Given, at: usize, side: &[u8], found: Found, tray: &[u8]) -> i32
+fn say_found(rt: &HostRuntime, g: Given, at: usize, side: &[u8], found: Found, tray: &[u8]) -> i32
     requires { (length side.now ≤ 3) × (found.length ≤ 952) }
 {
     if found.number != 0 {
-        return without_key(at, side, found.number);
+        return without_key(rt, at, side, found.number);
     }
-    say_newer(told_of(g), found.stamp, tray);
-    written(say_key(side, g.key, found.stamp, found.length as u32))
+    say_newer(rt, told_of(g), found.stamp, tray);
+    written(say_key(rt, side, g.key, found.stamp, found.length as u32))
 }
 
-fn load_and_find(g: Given, at: usize, side: &[u8], n: u32, tray: &mut [u8], room: &mut [u8]) -> Key
+fn load_and_find(
+    rt: &HostRuntime,
+    g: Given,
+    at: usize,
+    side: &[u8],
+    n: u32,
+    tray: &mut [u8],
+    room: &mut [u8],
+) -> Key
     requires { (length side.now ≤ 3) × ((length tray.old ≡ 2048 * n) × (length room.old ≡ 952)) }
 {
-    if !fill(at, n, tray) {
+    if !fill(rt, at, n, tray) {
         return Key {
             status: 100,
             length: 0,
         };
     }
     let found = find(told_of(g), tray, room);
+    let length = found.length;
     Key {
-        status: say_found(g, at, side, found, tray),
-        length: found.length,
+        status: say_found(rt, g, at, side, found, tray),
+        length,
     }
 }
 
 // Puts the key of the tray that a word names into a room of zeros. Says what is wrong where there is none.
-fn key_of(g: Given, at: usize, side: &[u8], room: &mut [u8]) -> Key
-    requires fact_1 { length side.now ≤ 3 }
-    requires fact_2 { length room.old ≡ 952 }
+fn key_of(rt: &HostRuntime, g: Given, at: usize, side: &[u8], room: &mut [u8]) -> Key
+    requires side_len { length side.now ≤ 3 }
+    requires room_len { length room.old ≡ 952 }
 {
     let n = slots_of(g);
     let size = 2048 * n as usize;
     let mut tray = [0u8; 32768];
-    load_and_find(g, at, side, n, &mut tray[..size], room)
+    load_and_find(rt, g, at, side, n, &mut tray[..size], room)
 }
 
 // Says whether the keys are the same, and ends so.
-fn end(same: bool) -> i32 {
+fn end(rt: &HostRuntime, same: bool) -> i32 {
     let mut out = [0u8; 128];
     let count = put_same_line(&mut out, same);
-    if !said(libc::STDOUT_FILENO, &out[..count]) {
+    if !said(rt, Stream::Output, &out[..count]) {
         return 100;
     }
     status_for(if same { 0 } else { 1 })
 }
 
 // Behind a key its room has zeros, so that keys of one length are the same where their rooms are.
-pub fn run(g: Given) -> i32 {
+pub fn run(rt: &HostRuntime, g: Given) -> i32 {
     let mut old_room = [0u8; 952];
-    let old = key_of(with_old_order(g), g.first, b"old", &mut old_room);
+    let old = key_of(rt, with_old_order(g), g.first, b"old", &mut old_room);
     if old.status != 0 {
         return old.status;
     }
     let mut new_room = [0u8; 952];
-    let new = key_of(g, g.second, b"new", &mut new_room);
+    let new = key_of(rt, g, g.second, b"new", &mut new_room);
     if new.status != 0 {
         return new.status;
     }
-    end(old.length == new.length && same(&old_room, &new_room))
+    end(rt, old.length == new.length && same(&old_room, &new_room))
 }

@@ -87,7 +87,14 @@ fn with_one(rt: &HostRuntime, g: Given, command: usize, option: usize, word: &[u
 }
 
 // The value is the word that stands at a place.
-fn with_value(rt: &HostRuntime, g: Given, command: usize, option: usize, at: usize, word: &[u8]) -> Given {
+fn with_value(
+    rt: &HostRuntime,
+    g: Given,
+    command: usize,
+    option: usize,
+    at: usize,
+    word: &[u8],
+) -> Given {
     if option == form::KEEPERS {
         return with_keepers(rt, g, command, at, word);
     }

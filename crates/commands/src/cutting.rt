@@ -10,6 +10,7 @@ use names::trimmed;
 use options::given::Given;
 use saving::folder::made;
 use saying::trouble;
+use system::words::word;
 
 // How many random words a cut takes. A t or a length that is refused in any case needs none.
 pub fn words_for(t: u32, l: usize) -> usize
@@ -25,48 +26,60 @@ pub fn words_for(t: u32, l: usize) -> usize
 }
 
 // Puts the letters of a tray into their folder, whose name may end in '/'.
-pub fn put_letters(folder: &[u8], n: u32, tray: &[u8]) -> i32
+pub fn put_letters(rt: &HostRuntime, folder: &[u8], n: u32, tray: &[u8]) -> i32
     requires { length tray.now ≡ 2048 * n }
 {
     let end = trimmed(folder);
-    written(made(&folder[..end], n, tray))
+    written(made(rt, &folder[..end], n, tray))
 }
 
-fn cut_into(g: Given, n: u32, secret: &[u8], random: &[u16], tray: &mut [u8]) -> i32
+fn cut_into(
+    rt: &HostRuntime,
+    g: Given,
+    n: u32,
+    secret: &[u8],
+    random: &[u16],
+    tray: &mut [u8],
+) -> i32
     requires { length tray.old ≡ 2048 * n }
 {
     let number = cs_cut(g.t, g.f, g.n, g.key, g.stamp, secret, random, tray);
     if number != 0 {
-        return answered(number, 0);
+        return answered(rt, number, 0);
     }
     let mut folder = io::buffer();
-    let named = os::arg(g.second, &mut folder);
-    put_letters(&folder[..named], n, tray)
+    let named = word(rt, g.second, &mut folder).count;
+    put_letters(rt, &folder[..named], n, tray)
 }
 
-fn cut_drawn(g: Given, secret: &[u8], random: &mut [u16]) -> i32 {
-    if !fill(random) {
-        return trouble(b"the system's source of random bytes", b"gives none");
+fn cut_drawn(rt: &HostRuntime, g: Given, secret: &[u8], random: &mut [u16]) -> i32 {
+    if let Err(error) = fill(rt, random) {
+        return trouble(
+            rt,
+            b"the system's source of random bytes",
+            b"gives none",
+            error,
+        );
     }
     let n = slots_of(g);
     let size = 2048 * n as usize;
     let mut tray = [0u8; 32768];
-    cut_into(g, n, secret, random, &mut tray[..size])
+    cut_into(rt, g, n, secret, random, &mut tray[..size])
 }
 
-fn cut(g: Given, secret: &[u8]) -> i32 {
+fn cut(rt: &HostRuntime, g: Given, secret: &[u8]) -> i32 {
     let count = words_for(g.t, secret.len());
     let mut random = [0u16; 6664];
-    cut_drawn(g, secret, &mut random[..count])
+    cut_drawn(rt, g, secret, &mut random[..count])
 }
 
-pub fn run(g: Given) -> i32 {
+pub fn run(rt: &HostRuntime, g: Given) -> i32 {
     // one byte more than the longest secret, so that a longer one is seen to be too long
     let mut secret = [0u8; 953];
-    let got = given_by(g.first, &mut secret);
+    let got = given_by(rt, g.first, &mut secret);
     if !got.right {
         return 100;
     }
     let count = got.count;
-    cut(g, &secret[..count])
+    cut(rt, g, &secret[..count])
 }

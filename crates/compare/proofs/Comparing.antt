@@ -14,7 +14,7 @@ use Rattle.header.specs.declared.order.Order.{Order}
 use Rattle.compare.specs.Compare.{differs, difference, differences}
 use Rattle.compare.specs.CompareLaws.{CompareFacts}
 use Rattle.compare.specs.Parts.{part_differs, in_parts, HaveParts, Looked, Laid}
-use Rattle.compare.specs.PartLaws.{in_parts_all}
+use Rattle.compare.proofs.PartLaws.{in_parts_all}
 
 -- a slot has 128 parts
 pub trays_have_parts : {order : Order} {first second : List ℕ} → CompareFacts order first second → HaveParts first second (128 * order.n)

@@ -13,7 +13,7 @@ use Rattle.lists.specs.From.{from}
 use Rattle.lists.specs.Patched.{patched_none, patched_more, set-patched, length-patched}
 use Rattle.compare.specs.Compare.{difference}
 use Rattle.compare.specs.Parts.{in_part, in_parts, Laid}
-use Rattle.compare.specs.PartLaws.{in_parts-append, in_parts_more, length_more}
+use Rattle.compare.proofs.PartLaws.{in_parts-append, in_parts_more, length_more}
 
 module _ {rule : ℕ → List ℕ} {old : List (List ℕ)} {at : ℕ} where
   pub laid_none : at ≤ length old → Laid rule old at [] old at

@@ -1,4 +1,3 @@
 pub mod Compare
 pub mod CompareLaws
 pub mod Parts
-pub mod PartLaws

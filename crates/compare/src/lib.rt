@@ -42,9 +42,9 @@ fn refusal(o: Order, first: &[u8], second: &[u8]) -> u32
 // How many words differ where the list has too few places for them, and 0 where it has enough. A list that has a place for every word of the parts found has
 // enough, and nothing is counted.
 fn too_many(first: &[u8], second: &[u8], m: usize, parts: &[u16], places: usize) -> usize
-    requires fact_1 { HaveParts first.now second.now m }
-    requires fact_2 { Below m parts.now }
-    requires fact_3 { length parts.now ≤ 2048 }
+    requires have_parts { HaveParts first.now second.now m }
+    requires parts_below { Below m parts.now }
+    requires few { length parts.now ≤ 2048 }
     ensures { result ≡ beyond places (length (in_parts first.now second.now parts.now)) }
 {
     if 8 * parts.len() <= places {

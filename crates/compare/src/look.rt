@@ -38,9 +38,9 @@ fn words_in(first: &[u8], second: &[u8], p: usize) -> usize
 
 // How many words of some parts differ.
 pub fn count(first: &[u8], second: &[u8], m: usize, parts: &[u16]) -> usize
-    requires fact_1 { HaveParts first.now second.now m }
-    requires fact_2 { Below m parts.now }
-    requires fact_3 { length parts.now ≤ 2048 }
+    requires have_parts { HaveParts first.now second.now m }
+    requires parts_below { Below m parts.now }
+    requires few { length parts.now ≤ 2048 }
     ensures { result ≡ length (in_parts first.now second.now parts.now) }
 {
     let mut words = 0;
@@ -55,8 +55,8 @@ pub fn count(first: &[u8], second: &[u8], m: usize, parts: &[u16]) -> usize
 // Lists the parts of the first m that differ, and says how many there are. Every part is written down, and where it does not differ the next is written over
 // it: so the processor has no branch to guess.
 pub fn look(first: &[u8], second: &[u8], m: usize, parts: &mut [u16]) -> usize
-    requires fact_1 { HaveParts first.now second.now m }
-    requires fact_2 { m ≤ length parts.old }
+    requires have_parts { HaveParts first.now second.now m }
+    requires room { m ≤ length parts.old }
     ensures { Looked first.now second.now m parts.old parts.new result }
 {
     let mut found = 0;

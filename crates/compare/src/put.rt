@@ -21,8 +21,8 @@ fn place(first: &[u8], second: &[u8], i: usize) -> [u16; 5]
 
 // Writes the places of part p where the trays differ, from place `at` of the list on, and says where the next goes.
 fn put_part(first: &[u8], second: &[u8], p: usize, list: &mut [[u16; 5]], at: usize) -> usize
-    requires fact_1 { HaveParts first.now second.now (p + 1) }
-    requires fact_2 { at + length (in_part first.now second.now p) ≤ length list.old }
+    requires have_parts { HaveParts first.now second.now (p + 1) }
+    requires room { at + length (in_part first.now second.now p) ≤ length list.old }
     ensures { Laid (difference first.now second.now) list.old at (in_part first.now second.now p) list.new result }
 {
     let mut next = at;
@@ -42,9 +42,9 @@ fn put_part(first: &[u8], second: &[u8], p: usize, list: &mut [[u16; 5]], at: us
 
 // Writes the places of some parts where the trays differ, from the front of the list on, and says how many there are.
 pub fn put(first: &[u8], second: &[u8], m: usize, parts: &[u16], list: &mut [[u16; 5]]) -> usize
-    requires fact_1 { HaveParts first.now second.now m }
-    requires fact_2 { Below m parts.now }
-    requires fact_3 { length (in_parts first.now second.now parts.now) ≤ length list.old }
+    requires have_parts { HaveParts first.now second.now m }
+    requires parts_below { Below m parts.now }
+    requires room { length (in_parts first.now second.now parts.now) ≤ length list.old }
     ensures { Laid (difference first.now second.now) list.old 0 (in_parts first.now second.now parts.now) list.new result }
 {
     let mut next = 0;

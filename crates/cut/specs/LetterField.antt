@@ -4,7 +4,7 @@ use Rattle.std.specs.Prelude.{◌<◌, ◌≤◌, ◌≡◌, true}
 use Rattle.std.proofs.Common.{arith}
 use Rattle.algebra.specs.Field.{Ops, IsField}
 use Rattle.field.specs.Modulo.{mod257}
-use Rattle.field.specs.Laws.{mod257_field}
+use Rattle.field.proofs.Laws.{mod257_field}
 use Rattle.header.specs.declared.order.Order.{Order}
 use Rattle.header.specs.Order.{lawful_order}
 use Rattle.header.specs.OrderLaws.{lawful_order_facts}

@@ -14,10 +14,10 @@ use tray::head_for;
 
 // Writes keeper x's letter into its slot. The row is room to work in.
 fn write_letter(told: Told, stamp: u32, columns: &[u16], x: usize, row: &mut [u16], slot: &mut [u8])
-    requires fact_1 { lawful_head (head_for told stamp (length row.old) x) ≡ true }
-    requires fact_2 { length columns.now ≡ length row.old * (told.order.t + 1) }
-    requires fact_3 { Below 257 columns.now }
-    requires fact_4 { length slot.old ≡ 2048 }
+    requires head { lawful_head (head_for told stamp (length row.old) x) ≡ true }
+    requires as_long { length columns.now ≡ length row.old * (told.order.t + 1) }
+    requires words { Below 257 columns.now }
+    requires room { length slot.old ≡ 2048 }
     ensures { slot.new ≡ letter_from mod257 told stamp columns.now (length row.old) x }
 {
     let l = row.len();

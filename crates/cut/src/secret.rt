@@ -36,9 +36,9 @@ fn fill(
     row: &mut [u16],
     tray: &mut [u8],
 )
-    requires fact_1 { cut_number told stamp secret.now random.now tray.old ≡ 0 }
-    requires fact_2 { length columns.old ≡ length secret.now * (told.order.t + 1) }
-    requires fact_3 { length row.old ≡ length secret.now }
+    requires right { cut_number told stamp secret.now random.now tray.old ≡ 0 }
+    requires columns_room { length columns.old ≡ length secret.now * (told.order.t + 1) }
+    requires row_room { length row.old ≡ length secret.now }
     ensures { tray.new ≡ cut_tray mod257 told stamp secret.now random.now }
 {
     put_bytes(secret, row);

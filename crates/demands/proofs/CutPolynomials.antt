@@ -19,7 +19,7 @@ use Rattle.format.specs.Reading.{read_of, shares_of}
 use Rattle.tray.specs.Tray.{head_for, slot_of, usable, word_of}
 use Rattle.agree.specs.AgreementLaws.{matches-at, matches_holds}
 use Rattle.tray.specs.SlotLaws.{below_slot}
-use Rattle.tray.specs.UsableLaws.{usable_reads}
+use Rattle.tray.proofs.UsableLaws.{usable_reads}
 use Rattle.agree.specs.Agreement.{Polynomials, matches, constants}
 use Rattle.shares.specs.Shares.{share_words}
 use Rattle.shares.specs.ShareWords.{length-share_words}

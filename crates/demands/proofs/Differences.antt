@@ -15,7 +15,8 @@ use Rattle.block.specs.WordParts.{length-words}
 use Rattle.header.specs.declared.order.Order.{Order}
 use Rattle.compare.specs.declared.Compared.{Compared}
 use Rattle.compare.specs.Compare.{differs, difference, differences, CompareDone, refused, short, told}
-use Rattle.compare.specs.CompareLaws.{CompareFacts, compare_facts, differs-words}
+use Rattle.compare.specs.CompareLaws.{CompareFacts}
+use Rattle.compare.proofs.CompareLaws.{compare_facts, differs-words}
 
 -- a test that none of a list passes fails at each
 not_empty : (y : ℕ) (ys : List ℕ) → In y ys → length ys ≡ 0 → ⊥

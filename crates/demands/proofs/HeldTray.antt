@@ -17,7 +17,7 @@ use Rattle.format.specs.WrittenReads.{Reads, written_reads}
 use Rattle.format.specs.Zeros.{zero_slot, zeros_read}
 use Rattle.tray.specs.Tray.{head_for, slot_of, usable, word_of}
 use Rattle.agree.specs.ScanLaws.{SameScan}
-use Rattle.tray.specs.UsableLaws.{reads_usable}
+use Rattle.tray.proofs.UsableLaws.{reads_usable}
 use Rattle.demands.specs.HeldTray.{held_slot, held_tray, Held}
 
 module _ {told : Told} {stamp l : ℕ} {rows : List (List ℕ)} (H : Held told stamp l rows) where

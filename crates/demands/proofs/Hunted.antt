@@ -10,15 +10,15 @@ use Rattle.lists.specs.KeeperSet.{member, keeper_set}
 use Rattle.lists.specs.KeeperSetLaws.{member-keeper_set}
 use Rattle.algebra.specs.Field.{Ops}
 use Rattle.field.specs.Modulo.{mod257}
-use Rattle.field.specs.Laws.{mod257_field}
+use Rattle.field.proofs.Laws.{mod257_field}
 use Rattle.header.specs.declared.told.Told.{Told}
 use Rattle.format.specs.GoodWritten.{good_written}
 use Rattle.format.specs.Reading.{shares_of}
 use Rattle.tray.specs.SlotLaws.{below_slot}
 use Rattle.tray.specs.Tray.{head_for, slot_of, usable, usable_many, word_of}
-use Rattle.tray.specs.UsableLaws.{usable_reads}
+use Rattle.tray.proofs.UsableLaws.{usable_reads}
 use Rattle.agree.specs.Agreement.{agreeing, reaching, Reaches}
-use Rattle.trials.specs.Binomials.{choose_most}
+use Rattle.trials.proofs.BinomialsLaws.{choose_most}
 use Rattle.trials.specs.Sets.{choose}
 use Rattle.trials.specs.Trials.{trials, FirstGood}
 use Rattle.trials.specs.Within.{within}

@@ -14,7 +14,7 @@ use Rattle.header.specs.Order.{lawful_keeper}
 use Rattle.header.specs.OrderLaws.{KeeperFacts, lawful_keeper_facts, facts_lawful_keeper}
 use Rattle.format.specs.Reading.{read_of}
 use Rattle.tray.specs.Tray.{head_for, slot_of, usable}
-use Rattle.tray.specs.UsableLaws.{usable_reads, reads_usable}
+use Rattle.tray.proofs.UsableLaws.{usable_reads, reads_usable}
 use Rattle.cut.specs.Cut.{cut_tray}
 use Rattle.cut.specs.LetterField.{mod257-letters}
 use Rattle.cut.specs.OneCut.{OneCut, read_cut}

@@ -13,9 +13,9 @@ use Rattle.algebra.specs.Field.{Ops}
 use Rattle.header.specs.declared.told.Told.{Told}
 use Rattle.header.specs.OrderLaws.{KeeperFacts, lawful_order_facts}
 use Rattle.tray.specs.Tray.{slot_of, usable, usable_many, word_of}
-use Rattle.tray.specs.UsableLaws.{reads_usable}
+use Rattle.tray.proofs.UsableLaws.{reads_usable}
 use Rattle.agree.specs.Agreement.{needed}
-use Rattle.trials.specs.Lowest.{all_within}
+use Rattle.trials.proofs.Lowest.{all_within}
 use Rattle.trials.specs.Trials.{trials}
 use Rattle.trials.specs.Within.{within}
 use Rattle.shares.specs.Shares.{share_words}

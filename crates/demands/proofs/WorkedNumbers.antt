@@ -17,7 +17,7 @@ use Rattle.algebra.specs.Interpolate.{interpolate}
 use Rattle.algebra.specs.Poly.{eval, eval_constant, Degree, degree_cons}
 use Rattle.algebra.specs.Ring.{zero-add, mul_cancel}
 use Rattle.field.specs.Modulo.{reciprocals, mod257}
-use Rattle.field.specs.Laws.{mod257_field}
+use Rattle.field.proofs.Laws.{mod257_field}
 use Rattle.block.specs.Check.{all_at_most}
 use Rattle.block.specs.AtMostLaws.{at_most_below}
 use Rattle.header.specs.Order.{lawful_order}

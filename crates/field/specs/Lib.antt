@@ -1,4 +1,1 @@
-pub mod Fraction
-pub mod Laws
 pub mod Modulo
-pub mod Table

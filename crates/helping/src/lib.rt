@@ -6,6 +6,8 @@ use options::form;
 use options::form::command_of;
 use saving::save::said;
 use saying::line::{four, say};
+use system::output::Stream;
+use system::words::{word as word_at, word_count};
 
 const USAGE: [u8; 1730] = *b"\
 csalgodes: a signing key as letters, one for each of N keepers, that come back
@@ -185,62 +187,62 @@ drop the old ones. Each tray is as good as the key: remove both.
 ";
 
 // What a command does that moves a key.
-fn say_move_help(command: usize) -> i32 {
+fn say_move_help(rt: &HostRuntime, command: usize) -> i32 {
     if command == form::MOVE_CUT {
-        told(&MOVE_CUT)
+        told(rt, &MOVE_CUT)
     } else if command == form::MOVE_WEIGH {
-        told(&MOVE_WEIGH)
+        told(rt, &MOVE_WEIGH)
     } else {
-        told(&MOVE_CHECK)
+        told(rt, &MOVE_CHECK)
     }
 }
 
 // What one command does.
-pub fn say_help(command: usize) -> i32 {
+pub fn say_help(rt: &HostRuntime, command: usize) -> i32 {
     if command == form::CUT {
-        told(&CUT)
+        told(rt, &CUT)
     } else if command == form::SHOW {
-        told(&SHOW)
+        told(rt, &SHOW)
     } else if command == form::STORE {
-        told(&STORE)
+        told(rt, &STORE)
     } else if command == form::FETCH {
-        told(&FETCH)
+        told(rt, &FETCH)
     } else if command == form::JOIN {
-        told(&JOIN)
+        told(rt, &JOIN)
     } else if command == form::COMPARE {
-        told(&COMPARE)
+        told(rt, &COMPARE)
     } else {
-        say_move_help(command)
+        say_move_help(rt, command)
     }
 }
 
 // 0, or 100 where standard output does not take it.
-fn told(text: &[u8]) -> i32 {
-    if said(libc::STDOUT_FILENO, text) {
+fn told(rt: &HostRuntime, text: &[u8]) -> i32 {
+    if said(rt, Stream::Output, text) {
         0
     } else {
         100
     }
 }
 
-pub fn say_version() -> i32 {
-    if os::arg_count() > 2 {
-        return too_many(2);
+pub fn say_version(rt: &HostRuntime) -> i32 {
+    if word_count(rt) > 2 {
+        return too_many(rt, 2);
     }
-    told(b"csalgodes 0.6.0\n")
+    told(rt, b"csalgodes 0.6.0\n")
 }
 
 // What is said where there is no word at all.
-pub fn say_usage() -> i32 {
-    said(libc::STDERR_FILENO, &USAGE);
+pub fn say_usage(rt: &HostRuntime) -> i32 {
+    said(rt, Stream::Error, &USAGE);
     101
 }
 
 // A word that is wrong, where no command is named.
-pub fn wrong_word(word: &[u8], rule: &[u8]) -> i32 {
+pub fn wrong_word(rt: &HostRuntime, word: &[u8], rule: &[u8]) -> i32 {
     let mut out = [0u8; 8192];
     let count = four(&mut out, b"csalgodes: '", word, b"': ", rule);
-    say(&mut out, count);
+    say(rt, &mut out, count);
     let more = four(
         &mut out,
         b"csalgodes: 'csalgodes help' says how it is used",
@@ -248,37 +250,37 @@ pub fn wrong_word(word: &[u8], rule: &[u8]) -> i32 {
         b"",
         b"",
     );
-    say(&mut out, more);
+    say(rt, &mut out, more);
     101
 }
 
-fn too_many(at: usize) -> i32 {
+fn too_many(rt: &HostRuntime, at: usize) -> i32 {
     let mut word = io::buffer();
-    let count = os::arg(at, &mut word);
-    wrong_word(&word[..count], b"is one word too many")
+    let count = word_at(rt, at, &mut word).count;
+    wrong_word(rt, &word[..count], b"is one word too many")
 }
 
-fn help_of(word: &[u8]) -> i32 {
+fn help_of(rt: &HostRuntime, word: &[u8]) -> i32 {
     if same(word, b"help") {
-        return told(&USAGE);
+        return told(rt, &USAGE);
     }
     let command = command_of(word);
     if command == form::COMMANDS {
-        return wrong_word(word, b"there is no such command");
+        return wrong_word(rt, word, b"there is no such command");
     }
-    say_help(command)
+    say_help(rt, command)
 }
 
 // help, or help of a command.
-pub fn help_word() -> i32 {
-    let words = os::arg_count();
+pub fn help_word(rt: &HostRuntime) -> i32 {
+    let words = word_count(rt);
     if words < 3 {
-        return told(&USAGE);
+        return told(rt, &USAGE);
     }
     if words > 3 {
-        return too_many(3);
+        return too_many(rt, 3);
     }
     let mut word = io::buffer();
-    let count = os::arg(2, &mut word);
-    help_of(&word[..count])
+    let count = word_at(rt, 2, &mut word).count;
+    help_of(rt, &word[..count])
 }

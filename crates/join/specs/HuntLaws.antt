@@ -13,7 +13,8 @@ use Rattle.agree.specs.PastLaws.{reaching-past}
 use Rattle.agree.specs.ScanLaws.{SameScan, scan_reaching}
 use Rattle.trials.specs.Each.{each_all, each_more}
 use Rattle.trials.specs.Sets.{sets, choose, length-sets}
-use Rattle.trials.specs.SetsLaws.{SetOf, sets_of}
+use Rattle.trials.specs.SetsLaws.{SetOf}
+use Rattle.trials.proofs.SetsLaws.{sets_of}
 use Rattle.trials.specs.Trials.{trials, trials_le, trials_same}
 use Rattle.join.specs.Join.{hunt, hunted}
 

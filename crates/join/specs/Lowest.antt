@@ -14,8 +14,9 @@ use Rattle.agree.specs.Agreement.{matches, agreeing, reaching, Reaches}
 use Rattle.agree.specs.Kept.{Agreed}
 use Rattle.agree.specs.ReachingLaws.{Keeping, agreed_reaching, reaching_agreed}
 use Rattle.trials.specs.Each.{Each, each_more}
-use Rattle.trials.specs.Lowest.{first_within}
-use Rattle.trials.specs.SetsLaws.{SetOf, sets_of}
+use Rattle.trials.proofs.Lowest.{first_within}
+use Rattle.trials.specs.SetsLaws.{SetOf}
+use Rattle.trials.proofs.SetsLaws.{sets_of}
 use Rattle.trials.specs.Trials.{trials, FirstGood, first_trials, first_same, trials_same}
 use Rattle.trials.specs.Within.{within, within-each, each_within, within_same}
 use Rattle.join.specs.HuntLaws.{tried_usable}

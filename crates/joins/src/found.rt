@@ -10,25 +10,35 @@ use report_text::joined::usable_in;
 use report_text::line::put_lines;
 use saving::save::said;
 use showing::put_trials_line;
+use system::output::Stream;
 
 // Says how many trials a hunt would take.
-fn say_trials(to: i32, trials: u32) -> bool {
+fn say_trials(rt: &HostRuntime, to: Stream, trials: u32) -> bool {
     let mut out = [0u8; 128];
     let count = put_trials_line(&mut out, trials);
-    said(to, &out[..count])
+    said(rt, to, &out[..count])
 }
 
 // Says the last line of the report alone.
-pub fn say_answer(to: i32, number: u32) -> bool {
+pub fn say_answer(rt: &HostRuntime, to: Stream, number: u32) -> bool {
     let mut out = [0u8; 512];
     let end = put_answer_line(&mut out, 0, number);
     let count = front(end, &out);
-    said(to, &out[..count])
+    said(rt, to, &out[..count])
 }
 
-fn say_lines(to: i32, told: Told, stamp: u32, l: usize, joined: Joined, tray: &[u8]) -> bool
+fn say_lines(
+    rt: &HostRuntime,
+    to: Stream,
+    told: Told,
+    stamp: u32,
+    l: usize,
+    joined: Joined,
+    tray: &[u8],
+) -> bool
     requires { Joinable told l tray.now }
 {
+    let trials = joined.trials;
     let usable = usable_in(told, stamp, l, tray);
     let mut out = [0u8; 512];
     let end = put_lines(
@@ -41,7 +51,7 @@ fn say_lines(to: i32, told: Told, stamp: u32, l: usize, joined: Joined, tray: &[
         joined,
     );
     let count = front(end, &out);
-    said(to, &out[..count]) && say_trials(to, joined.trials)
+    said(rt, to, &out[..count]) && say_trials(rt, to, trials)
 }
 
 // Whether a number is one with which the report has a line for each keeper.
@@ -66,11 +76,19 @@ fn is_joinable(told: Told, l: usize, tray: &[u8]) -> bool
 }
 
 // Says the report of a join: the lines of its keepers where it gave 0, 7 or 8, else the last line alone.
-pub fn say_joined(to: i32, told: Told, stamp: u32, l: usize, joined: Joined, tray: &[u8]) -> bool {
+pub fn say_joined(
+    rt: &HostRuntime,
+    to: Stream,
+    told: Told,
+    stamp: u32,
+    l: usize,
+    joined: Joined,
+    tray: &[u8],
+) -> bool {
     if has_group(joined.number) {
         if is_joinable(told, l, tray) {
-            return say_lines(to, told, stamp, l, joined, tray);
+            return say_lines(rt, to, told, stamp, l, joined, tray);
         }
     }
-    say_answer(to, joined.number)
+    say_answer(rt, to, joined.number)
 }

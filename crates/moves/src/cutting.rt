@@ -9,8 +9,16 @@ use exports::hosts::cs_move_cut;
 use files::load::given_by;
 use options::given::Given;
 use saying::trouble;
+use system::words::word;
 
-fn cut_into(g: Given, n: u32, letter: &[u8], random: &[u16], tray: &mut [u8]) -> i32
+fn cut_into(
+    rt: &HostRuntime,
+    g: Given,
+    n: u32,
+    letter: &[u8],
+    random: &[u16],
+    tray: &mut [u8],
+) -> i32
     requires { length tray.old ≡ 2048 * n }
 {
     let cut = cs_move_cut(
@@ -18,35 +26,40 @@ fn cut_into(g: Given, n: u32, letter: &[u8], random: &[u16], tray: &mut [u8]) ->
         random, tray,
     );
     if cut.number != 0 {
-        return answered(cut.number, cut.place);
+        return answered(rt, cut.number, cut.place);
     }
     let mut folder = io::buffer();
-    let named = os::arg(g.second, &mut folder);
-    put_letters(&folder[..named], n, tray)
+    let named = word(rt, g.second, &mut folder).count;
+    put_letters(rt, &folder[..named], n, tray)
 }
 
-fn cut_drawn(g: Given, letter: &[u8], random: &mut [u16]) -> i32 {
-    if !fill(random) {
-        return trouble(b"the system's source of random bytes", b"gives none");
+fn cut_drawn(rt: &HostRuntime, g: Given, letter: &[u8], random: &mut [u16]) -> i32 {
+    if let Err(error) = fill(rt, random) {
+        return trouble(
+            rt,
+            b"the system's source of random bytes",
+            b"gives none",
+            error,
+        );
     }
     let n = slots_of(g);
     let size = 2048 * n as usize;
     let mut tray = [0u8; 32768];
-    cut_into(g, n, letter, random, &mut tray[..size])
+    cut_into(rt, g, n, letter, random, &mut tray[..size])
 }
 
-fn cut(g: Given, letter: &[u8]) -> i32 {
+fn cut(rt: &HostRuntime, g: Given, letter: &[u8]) -> i32 {
     let count = words_for(g.t, g.length as usize);
     let mut random = [0u16; 6664];
-    cut_drawn(g, letter, &mut random[..count])
+    cut_drawn(rt, g, letter, &mut random[..count])
 }
 
-pub fn run(g: Given) -> i32 {
+pub fn run(rt: &HostRuntime, g: Given) -> i32 {
     let mut letter = [0u8; 2049];
-    let got = given_by(g.first, &mut letter);
+    let got = given_by(rt, g.first, &mut letter);
     if !got.right {
         return 100;
     }
     let count = got.count;
-    cut(g, &letter[..count])
+    cut(rt, g, &letter[..count])
 }

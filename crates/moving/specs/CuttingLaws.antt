@@ -1,6 +1,6 @@
 -- What it says that a cutting is not refused, and what its sub-letters are written from.
 -- Assumes nothing.
-use Rattle.std.specs.Prelude.{ℕ, suc, ◌+◌, ◌-◌, ◌*◌, ◌<◌, ◌≤◌, ◌≡◌, refl, Bool, true, cond, ◌&&◌, List, eqb, ltb, length, take, drop}
+use Rattle.std.specs.Prelude.{ℕ, suc, ◌+◌, ◌-◌, ◌*◌, ◌<◌, ◌≤◌, ◌≡◌, refl, true, List, ltb, length, take, drop}
 use Rattle.std.proofs.Math.Path.{sym}
 use Rattle.std.proofs.Common.{ap, ◌∙◌, mul-le-mul, mul-le-mul_left, arith, ltb-true, ne_eqb}
 use Rattle.lists.specs.Below.{Below}
@@ -8,7 +8,6 @@ use Rattle.lists.specs.Pieces.{pieces, pieces_same}
 use Rattle.algebra.specs.Field.{Ops}
 use Rattle.block.specs.Check.{all_at_most}
 use Rattle.block.specs.AtMostLaws.{at_most_below}
-use Rattle.header.specs.declared.head.Head.{Head}
 use Rattle.header.specs.FirstOf.{both_right, first_right, first_wrong}
 use Rattle.header.specs.Head.{same_head, lawful_head}
 use Rattle.header.specs.HeadLaws.{facts_lawful_head, same_head_equal}

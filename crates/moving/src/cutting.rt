@@ -71,9 +71,9 @@ fn judge(m: Move, keeper: usize, letter: &[u8]) -> Cutting
 
 // Writes the rows of the new keepers as sub-letters, keeper 1's first.
 fn write_subs(m: Move, from: u16, rows: &[u16], tray: &mut [u8])
-    requires fact_1 { MoveTerms m }
-    requires fact_2 { length rows.now ≡ m.length * m.told.order.n }
-    requires fact_3 { length tray.old ≡ 2048 * m.told.order.n }
+    requires terms { MoveTerms m }
+    requires rows_length { length rows.now ≡ m.length * m.told.order.n }
+    requires tray_length { length tray.old ≡ 2048 * m.told.order.n }
     ensures { tray.new ≡ pieces (λ k. slot_bytes 82 from (head_for m.told m.stamp m.length (suc k)) (row_of rows.now m.length (suc k))) m.told.order.n }
 {
     let l = m.length;
@@ -103,9 +103,9 @@ fn fill(
     rows: &mut [u16],
     tray: &mut [u8],
 )
-    requires fact_1 { move_cut_number m keeper letter.now random.now tray.old ≡ 0 }
-    requires fact_2 { length row.old ≡ m.length }
-    requires fact_3 { length rows.old ≡ m.length * m.told.order.n }
+    requires right { move_cut_number m keeper letter.now random.now tray.old ≡ 0 }
+    requires row_room { length row.old ≡ m.length }
+    requires rows_room { length rows.old ≡ m.length * m.told.order.n }
     ensures { tray.new ≡ sub_tray mod257 m.told m.stamp keeper (shares_of letter.now m.length) random.now }
 {
     take_shares(letter, row);

@@ -8,7 +8,7 @@ use header::terms::terms_number;
 use header::told::Told;
 
 // The old order; the new order and the key; the new stamp; how many bytes the key has.
-#[derive(Drop)]
+#[derive(Clone, Copy)]
 pub struct Move {
     pub old: Order,
     pub told: Told,

@@ -1,12 +1,8 @@
 -- What is written from the start of a room on stands there as it is, and is a name where it is no longer than one can be.
 -- Assumes nothing.
-use Prim.Native.Nat.{ℕ, ◌+◌, ◌-◌, ◌<◌, ◌≤◌}
-use mathlib.Core.Path.{◌≡◌, refl, ◌∙◌}
-use mathlib.Core.List.{List}
-use native.Mathlib.Nat.{zero-add}
-use native.Mathlib.Omega.{arith}
-use lib.ListN.{length, get_or, take, drop, replicate, get_or-replicate}
-use lib.Seq.{take-append_seam, drop-append_seam, get_or-drop}
+use Rattle.std.proofs.Common.{ℕ, ◌+◌, ◌-◌, ◌<◌, ◌≤◌, ◌≡◌, refl, ◌∙◌, List, zero-add, arith, length, get_or, take, drop, replicate, get_or-drop}
+use Rattle.std.proofs.lemmas.List.{get_or-replicate}
+use Rattle.std.proofs.Math.Seq.{take-append_seam, drop-append_seam}
 use Rattle.lines.specs.Written.{Written}
 use Rattle.lists.specs.Zeros.{drop_zeros}
 use Rattle.names.specs.Names.{Named, Closed}

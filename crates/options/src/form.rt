@@ -148,13 +148,7 @@ pub fn option_of(word: &[u8]) -> usize {
 }
 
 // Says which word is wrong, and by which rule.
-pub fn wrong_word(
-    rt: &HostRuntime,
-    g: Given,
-    command: usize,
-    word: &[u8],
-    rule: &[u8],
-) -> Given {
+pub fn wrong_word(rt: &HostRuntime, g: Given, command: usize, word: &[u8], rule: &[u8]) -> Given {
     let name = entry(&COMMAND_WORDS, command);
     let from = name.from;
     let to = name.to;

@@ -14,7 +14,7 @@ use Rattle.header.specs.TermsLaws.{TermsFacts}
 use Rattle.format.specs.Reading.{block_words}
 use Rattle.format.specs.ReadingBounds.{good_lawful, good_said}
 use Rattle.tray.specs.Tray.{head_for, slot_of, usable}
-use Rattle.tray.specs.UsableLaws.{usable_reads}
+use Rattle.tray.proofs.UsableLaws.{usable_reads}
 use Rattle.pick.specs.Ranks.{rank_of, stamp_in, length_in, may_have, rank_at}
 
 -- a lawful stamp and length come back from their rank

@@ -94,13 +94,7 @@ fn placed_in(
 }
 
 // Makes a file of these bytes under a name that no other has, and renames it to its place. new ends in XXXXXX.
-fn placed_by(
-    rt: &HostRuntime,
-    new: &mut [u8],
-    bytes: &[u8],
-    place: &[u8],
-    owner: Owner,
-) -> bool {
+fn placed_by(rt: &HostRuntime, new: &mut [u8], bytes: &[u8], place: &[u8], owner: Owner) -> bool {
     match created_temp(rt, new) {
         Ok(file) => placed_in(rt, file, new, bytes, place, owner),
         Err(error) => {

@@ -22,27 +22,17 @@ fn first_number(rt: &HostRuntime) -> u64 {
 
 // Puts six signs at the end of a name, which a number gives.
 fn put_signs(name: &mut [u8], number: u64) {
-    let mut at = name.len();
     let mut left = number;
-    for _ in 0..6 {
-        if at == 0 {
-            return;
-        }
-        at -= 1;
-        name[at] = SIGNS[(left % 62) as usize];
+    for place in name.iter_mut().rev().take(6) {
+        *place = SIGNS[(left % 62) as usize];
         left /= 62;
     }
 }
 
 // Puts six X at the end of a name.
 fn put_marks(name: &mut [u8]) {
-    let mut at = name.len();
-    for _ in 0..6 {
-        if at == 0 {
-            return;
-        }
-        at -= 1;
-        name[at] = b'X';
+    for place in name.iter_mut().rev().take(6) {
+        *place = b'X';
     }
 }
 

@@ -16,6 +16,7 @@ pub fn lent_right(o: Order, l: usize, words: usize, each: usize, room: usize) ->
 }
 
 // 4 where the lengths are wrong, 5 where a word is; else 0.
+#[tactic(auto, using(std::proofs::lemmas::Bool::Decides::nat_tests))]
 pub fn lent_number(right: bool, words: bool) -> u32
     ensures { result ≡ cond right (cond words 0 5) 4 }
 {

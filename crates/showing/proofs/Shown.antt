@@ -1,10 +1,6 @@
 -- Lines written piece by piece: two pieces written in one, the count of a whole line, and which line tells a count.
 -- Assumes nothing.
-use Prim.Native.Nat.{ℕ, ◌≤◌}
-use mathlib.Core.Path.{◌≡◌}
-use mathlib.Core.List.{List, ◌++◌, append_assoc}
-use lib.ListN.{length}
-use borrow.Author.Tests.{ne_eqb}
+use Rattle.std.proofs.Common.{ℕ, ◌≤◌, ◌≡◌, List, ◌++◌, append_assoc, length, ne_eqb}
 use Rattle.io.proofs.Counting.{prefix_len_of_le}
 use Rattle.io.specs.Counts.{IsPrefixLen}
 use Rattle.lines.specs.Text.{text, decimal}

@@ -136,9 +136,9 @@ fn first_other(m: Move, keeper: usize, letters: &[u8], count: usize) -> Weighing
 
 // Of the sub-letters, the first number that applies: 9 to 13, 16, 19, or 0. The froms are the old keepers that they name.
 pub fn judge(m: Move, keepers: &[u16], froms: &[u16], keeper: usize, letters: &[u8]) -> Weighing
-    requires fact_1 { MoveTerms m }
-    requires fact_2 { froms.now ≡ froms_of letters.now (length keepers.now) }
-    requires fact_3 { SubsLent letters.now (length keepers.now) }
+    requires terms { MoveTerms m }
+    requires named { froms.now ≡ froms_of letters.now (length keepers.now) }
+    requires lent { SubsLent letters.now (length keepers.now) }
     ensures { result ≡ subs_answer m keepers.now keeper letters.now }
 {
     let count = keepers.len();

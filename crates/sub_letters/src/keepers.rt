@@ -21,8 +21,8 @@ pub fn all_keepers(o: Order, keepers: &[u32]) -> bool
 
 // Copies keepers to as many words.
 pub fn put_keepers(keepers: &[u32], row: &mut [u16])
-    requires fact_1 { length row.old ≡ length keepers.now }
-    requires fact_2 { Below 17 keepers.now }
+    requires room { length row.old ≡ length keepers.now }
+    requires below { Below 17 keepers.now }
     ensures { row.new ≡ keepers.now }
 {
     let mut i = 0;

@@ -65,8 +65,8 @@ fn are_steady(letters: &[u8], count: usize, l: usize) -> bool
 
 // Whether the sub-letters are those of the keepers told, one of each. The froms are the old keepers that they name.
 pub fn froms_right(keepers: &[u16], froms: &[u16], letters: &[u8], l: usize) -> bool
-    requires fact_1 { froms.now ≡ froms_of letters.now (length keepers.now) }
-    requires fact_2 { SubsLent letters.now (length keepers.now) × (l ≤ 952) }
+    requires named { froms.now ≡ froms_of letters.now (length keepers.now) }
+    requires lent { SubsLent letters.now (length keepers.now) × (l ≤ 952) }
     ensures { result ≡ froms_right keepers.now letters.now l }
 {
     are_different(keepers)

@@ -1,6 +1,6 @@
 -- What a call of the system may answer.
 -- Assumes nothing.
-use Rattle.std.specs.Prelude.{ℕ, ℤ, pos, negsuc, ◌≡◌}
+use Rattle.std.specs.Prelude.{ℤ, pos, negsuc, ◌≡◌}
 
 -- 0, or -1
 abbrev pub Status : ℤ → Type 0

@@ -21,7 +21,7 @@ use Rattle.format.specs.GoodWritten.{Written, good_written}
 use Rattle.tray.specs.Tray.{head_for, slot_of, usable, word_of}
 use Rattle.tray.specs.Scan.{Scannable, Scanned}
 use Rattle.tray.specs.SlotLaws.{length-slot, below_slot}
-use Rattle.tray.specs.UsableLaws.{usable_reads, usable_facts}
+use Rattle.tray.proofs.UsableLaws.{usable_reads, usable_facts}
 
 -- of the keepers, 1..k are scanned
 pub record ScannedTo (told : Told) (stamp l : ℕ) (tray : List ℕ) (set : ℕ) (rows : List ℕ) (k : ℕ) : Type 0 where

@@ -1,4 +1,3 @@
 pub mod Scan
 pub mod SlotLaws
 pub mod Tray
-pub mod UsableLaws

@@ -8,12 +8,14 @@ use exports::comparing::cs_compare;
 use options::given::Given;
 use saving::save::said;
 use showing::{put_difference_line, put_total_line};
+use system::output::Stream;
+use system::words::word;
 
 fn wide(word: u16) -> u32 {
     word as u32
 }
 
-fn say_difference(d: [u16; 5]) -> bool {
+fn say_difference(rt: &HostRuntime, d: [u16; 5]) -> bool {
     let mut out = [0u8; 128];
     let count = put_difference_line(
         &mut out,
@@ -23,68 +25,68 @@ fn say_difference(d: [u16; 5]) -> bool {
         wide(d[3]),
         wide(d[4]),
     );
-    said(libc::STDOUT_FILENO, &out[..count])
+    said(rt, Stream::Output, &out[..count])
 }
 
-fn say_total(count: u32) -> bool {
+fn say_total(rt: &HostRuntime, count: u32) -> bool {
     let mut out = [0u8; 128];
     let size = put_total_line(&mut out, count);
-    said(libc::STDOUT_FILENO, &out[..size])
+    said(rt, Stream::Output, &out[..size])
 }
 
 // Says the differences, a line each, and how many there are.
-fn say_all(count: u32, list: &[[u16; 5]]) -> bool {
+fn say_all(rt: &HostRuntime, count: u32, list: &[[u16; 5]]) -> bool {
     let mut i = 0;
     while i < count as usize {
         if i >= list.len() {
             return false;
         }
-        if !say_difference(list[i]) {
+        if !say_difference(rt, list[i]) {
             return false;
         }
         i += 1;
     }
-    say_total(count)
+    say_total(rt, count)
 }
 
-fn compare(g: Given, before: &[u8], after: &[u8]) -> i32 {
+fn compare(rt: &HostRuntime, g: Given, before: &[u8], after: &[u8]) -> i32 {
     let mut list = [[0u16; 5]; 16384];
     let compared = cs_compare(g.t, g.f, g.n, before, after, &mut list);
     if compared.number != 0 {
-        return answered(compared.number, 0);
+        return answered(rt, compared.number, 0);
     }
-    if !say_all(compared.count, &list) {
+    if !say_all(rt, compared.count, &list) {
         return 100;
     }
     status_for(compared.count)
 }
 
 // Fills one of the trays from the folder that a word names.
-pub fn fill(at: usize, n: u32, tray: &mut [u8]) -> bool
+pub fn fill(rt: &HostRuntime, at: usize, n: u32, tray: &mut [u8]) -> bool
     requires { length tray.old ≡ 2048 * n }
 {
     let mut name = io::buffer();
-    let count = os::arg(at, &mut name);
-    filled(&name[..count], n, tray)
+    let count = word(rt, at, &mut name).count;
+    filled(rt, &name[..count], n, tray)
 }
 
-fn compare_trays(g: Given, n: u32, before: &mut [u8], after: &mut [u8]) -> i32
+fn compare_trays(rt: &HostRuntime, g: Given, n: u32, before: &mut [u8], after: &mut [u8]) -> i32
     requires before_len { length before.old ≡ 2048 * n }
     requires after_len { length after.old ≡ 2048 * n }
 {
-    if !fill(g.first, n, before) {
+    if !fill(rt, g.first, n, before) {
         return 100;
     }
-    if !fill(g.second, n, after) {
+    if !fill(rt, g.second, n, after) {
         return 100;
     }
-    compare(g, before, after)
+    compare(rt, g, before, after)
 }
 
-pub fn run(g: Given) -> i32 {
+pub fn run(rt: &HostRuntime, g: Given) -> i32 {
     let n = slots_of(g);
     let size = 2048 * n as usize;
     let mut before = [0u8; 32768];
     let mut after = [0u8; 32768];
-    compare_trays(g, n, &mut before[..size], &mut after[..size])
+    compare_trays(rt, g, n, &mut before[..size], &mut after[..size])
 }

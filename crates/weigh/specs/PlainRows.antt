@@ -12,7 +12,7 @@ use Rattle.lists.specs.Total.{total}
 use Rattle.algebra.specs.Combine.{factors}
 use Rattle.algebra.specs.Factor.{factor, factor_lt}
 use Rattle.algebra.specs.Mixed.{mixed}
-use Rattle.field.specs.Laws.{mod257_field}
+use Rattle.field.proofs.Laws.{mod257_field}
 use Rattle.field.specs.Modulo.{mod257}
 use Rattle.weigh.specs.PlainSum.{plainly, plainly_next, plainly_le, plainly-mod}
 use Rattle.weigh.specs.Weigh.{Addition}

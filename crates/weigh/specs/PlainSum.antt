@@ -13,7 +13,7 @@ use Rattle.lists.specs.Total.{total}
 use Rattle.algebra.specs.Combine.{combine, factors}
 use Rattle.algebra.specs.Factor.{factor, factor_lt}
 use Rattle.algebra.specs.Mixed.{mixed, mixed_more}
-use Rattle.field.specs.Laws.{mod257_field}
+use Rattle.field.proofs.Laws.{mod257_field}
 use Rattle.field.specs.Modulo.{mod257}
 
 module _ (xs : List ℕ) (z : ℕ → ℕ) (x : ℕ) where

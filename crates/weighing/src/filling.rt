@@ -30,10 +30,10 @@ fn weigh_rows(froms: &[u16], letters: &[u8], row: &mut [u16])
 
 // Writes the new keeper's letter. The row is room to work in.
 pub fn fill(m: Move, froms: &[u16], keeper: usize, letters: &[u8], row: &mut [u16], slot: &mut [u8])
-    requires fact_1 { Weighable froms.now letters.now row.old }
-    requires fact_2 { length row.old ≡ m.length }
-    requires fact_3 { lawful_head (head_for m.told m.stamp m.length keeper) ≡ true }
-    requires fact_4 { length slot.old ≡ 2048 }
+    requires weighable { Weighable froms.now letters.now row.old }
+    requires row_length { length row.old ≡ m.length }
+    requires head { lawful_head (head_for m.told m.stamp m.length keeper) ≡ true }
+    requires room { length slot.old ≡ 2048 }
     ensures { slot.new ≡ weighed_letter mod257 m keeper letters.now (length froms.now) }
 {
     weigh_rows(froms, letters, row);

@@ -24,8 +24,8 @@ fn weigh_told(
     letters: &[u8],
     slot: &mut [u8],
 ) -> Weighing
-    requires fact_1 { weigh_refusal m keepers.now keeper letters.now slot.old ≡ 0 }
-    requires fact_2 { froms.now ≡ froms_of letters.now (length keepers.now) }
+    requires right { weigh_refusal m keepers.now keeper letters.now slot.old ≡ 0 }
+    requires named { froms.now ≡ froms_of letters.now (length keepers.now) }
     ensures { WeighDone mod257 m keepers.now keeper letters.now slot.old result slot.new }
 {
     let judged = judge(m, keepers, froms, keeper, letters);
@@ -47,9 +47,9 @@ fn weigh_lent(
     froms: &mut [u16],
     slot: &mut [u8],
 ) -> Weighing
-    requires fact_1 { weigh_refusal m keepers.now keeper letters.now slot.old ≡ 0 }
-    requires fact_2 { length told.old ≡ length keepers.now }
-    requires fact_3 { length froms.old ≡ length keepers.now }
+    requires right { weigh_refusal m keepers.now keeper letters.now slot.old ≡ 0 }
+    requires told_room { length told.old ≡ length keepers.now }
+    requires froms_room { length froms.old ≡ length keepers.now }
     ensures { WeighDone mod257 m keepers.now keeper letters.now slot.old result slot.new }
 {
     put_keepers(keepers, told);

@@ -1,7 +1,7 @@
 -- `search::tried` meets its contract: the points are the base, and what is carried from them lies on the one polynomial through them.
 -- Assumes nothing.
 use Rattle.std.proofs.Common.{ℕ, ◌-◌, ◌≤◌, ◌≡◌, List, arith}
-use Rattle.field.specs.Laws.{mod257_field}
+use Rattle.field.proofs.Laws.{mod257_field}
 use Rattle.field.specs.Modulo.{mod257}
 use Rattle.lists.specs.Below.{below_any}
 use Rattle.lists.specs.KeeperSet.{keeper_set, member}

@@ -3,7 +3,7 @@
 use Rattle.std.proofs.Common.{sym, ap, ◌∙◌, arith, length-take}
 use Rattle.format.specs.Reading.{read_of}
 use Rattle.tray.proofs.Scanning.{scanned_none, scanned_skipped, slot_size, room_for_bit, scanned_joined, scanned_all}
-use Rattle.tray.specs.UsableLaws.{usable_as}
+use Rattle.tray.proofs.UsableLaws.{usable_as}
 use Rattle.tray.proofs.scan.Goals as goal
 use Rattle.tray.proofs.scan.Goals.{then-same, else-same}
 

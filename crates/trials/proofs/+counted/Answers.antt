@@ -3,8 +3,9 @@
 -- Assumes nothing.
 use Rattle.std.proofs.Common.{ℕ, ◌+◌, ◌≡◌, sym, ◌∙◌, Bool, true, arith, rules}
 use Rattle.lists.specs.KeeperSet.{member}
-use Rattle.trials.specs.Left.{left, Counting, Met, many_most, many_some, one_left, counting_passed, place_passed, counting_included, place_included, counting_skipped, place_skipped, skipped_most}
-use Rattle.trials.specs.Lowest.{place_done}
+use Rattle.trials.specs.Left.{left, Counting, Met}
+use Rattle.trials.proofs.Left.{many_most, many_some, one_left, counting_passed, place_passed, counting_included, place_included, counting_skipped, place_skipped, skipped_most}
+use Rattle.trials.proofs.Lowest.{place_done}
 use Rattle.trials.proofs.+counted.Goals as goal
 
 -- the next keeper is usable, and the set lacks some

@@ -1,7 +1,7 @@
 -- `trials::all_sets` meets its contract: there are as many sets as the binomial says.
 -- Assumes nothing.
 use Rattle.std.proofs.Common.{ℕ, ◌+◌, sym, ap, ◌∙◌}
-use Rattle.trials.specs.Left.{usable_many_lem}
+use Rattle.trials.proofs.Left.{usable_many_lem}
 use Rattle.trials.specs.Sets.{choose, length-sets}
 use Rattle.trials.proofs.all_sets.Goals as goal
 

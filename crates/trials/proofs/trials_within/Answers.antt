@@ -4,8 +4,8 @@ use Rattle.std.proofs.Common.{◌+◌, ◌∙◌, arith}
 use Rattle.lists.specs.Chosen.{chosen}
 use Rattle.lists.specs.From.{from}
 use Rattle.lists.specs.KeeperSet.{member}
-use Rattle.trials.specs.Left.{usable_many_lem}
-use Rattle.trials.specs.Lowest.{place-trials}
+use Rattle.trials.proofs.Left.{usable_many_lem}
+use Rattle.trials.proofs.Lowest.{place-trials}
 use Rattle.trials.proofs.trials_within.Goals as goal
 
 pub counted-requires : goal.counted-requires

@@ -3,8 +3,8 @@
 use Rattle.std.proofs.Common.{ℕ, ◌+◌, ◌<◌, ◌≡◌, refl, sym, ap, ◌∙◌, List, add-one, arith, length, get_or, rules, eq-eqb, ne_eqb}
 use Rattle.algebra.specs.Factor.{factor, factor-take}
 use Rattle.algebra.specs.Fraction.{mul_four}
-use Rattle.field.specs.Fraction.{inv_product}
-use Rattle.field.specs.Laws.{mod257_field}
+use Rattle.field.proofs.Fraction.{inv_product}
+use Rattle.field.proofs.Laws.{mod257_field}
 use Rattle.field.specs.Modulo.{mod257, reciprocals}
 use Rattle.weigh.proofs.factor_of.Invariants.{Passed}
 use Rattle.weigh.proofs.factor_of.Goals as goal

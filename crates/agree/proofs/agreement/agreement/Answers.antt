@@ -5,7 +5,7 @@ use Rattle.std.specs.Int.Count.{ones}
 use Rattle.agree.specs.Agreement.{needed}
 use Rattle.agree.specs.KeptLaws.{kept_in_step, kept_narrowed, found_none, found_kept}
 use Rattle.algebra.specs.Agreement.{need}
-use Rattle.field.specs.Laws.{mod257_field}
+use Rattle.field.proofs.Laws.{mod257_field}
 use Rattle.lists.specs.KeeperSet.{member}
 use Rattle.lists.specs.KeeperSetLaws.{ones-member}
 use Rattle.search.specs.Base.{keeper_points}

@@ -2,7 +2,7 @@
 -- Assumes nothing.
 use Rattle.std.proofs.Common.{arith}
 use Rattle.agree.specs.Recovers.{recovered}
-use Rattle.field.specs.Laws.{mod257_field}
+use Rattle.field.proofs.Laws.{mod257_field}
 use Rattle.search.specs.Base.{base_length, base_keepers, keeper_points}
 use Rattle.weigh.specs.Weigh.{row_word}
 use Rattle.agree.proofs.constants.constants_of.Goals as goal

@@ -1,7 +1,7 @@
 -- `shares::rows::share_row` meets its contract: before each turn the row holds the values of the powers from j on.
 -- Assumes nothing.
 use Rattle.std.proofs.Common.{◌+◌, ◌-◌, ◌*◌, ◌≤◌, ◌≡◌, sym, ap, ◌∙◌, arith, length, drop, rules}
-use Rattle.field.specs.Laws.{mod257_field}
+use Rattle.field.proofs.Laws.{mod257_field}
 use Rattle.field.specs.Modulo.{mod257}
 use Rattle.lists.specs.Below.{below_take, below_drop}
 use Rattle.shares.specs.Laying.{part_is, length_part}

@@ -1,0 +1,11 @@
+-- `desk::copy` meets its contract: the slot held is filled from the front with the letter.
+-- Assumes nothing.
+use Rattle.std.proofs.Common.{◌-◌, length, get_or}
+use Rattle.lists.specs.Filling.{Filling}
+use Rattle.desk.proofs.copy.Given as goal
+
+abbrev pub invariant-loop-i : goal.invariant-loop-i
+invariant-loop-i l = Filling (λ k. get_or l.letter k 0) l.initial.held l.i l.held
+
+abbrev pub decreases-loop-i : goal.decreases-loop-i
+decreases-loop-i l = length l.initial.held - l.i

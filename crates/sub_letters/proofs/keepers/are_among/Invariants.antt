@@ -1,0 +1,12 @@
+-- `sub_letters::keepers::are_among` meets its contract: it stops at the first that is not among the others.
+-- Assumes nothing.
+use Rattle.std.proofs.Common.{◌-◌, not, length, get_or}
+use Rattle.lists.specs.AllToLaws.{PassedTo}
+use Rattle.sub_letters.specs.Keepers.{none_is}
+use Rattle.sub_letters.proofs.keepers.are_among.Given as goal
+
+abbrev pub invariant-loop-i : goal.invariant-loop-i
+invariant-loop-i l = PassedTo (λ k. not (none_is (get_or l.xs k 0) l.ys (length l.ys))) (length l.xs) l.i
+
+abbrev pub decreases-loop-i : goal.decreases-loop-i
+decreases-loop-i l = length l.xs - l.i

@@ -1,0 +1,17 @@
+-- `sub_letters::keepers::put_keepers` meets its contract: the row is filled from the front with the keepers.
+-- Assumes nothing.
+use Rattle.std.proofs.Common.{refl, arith}
+use Rattle.lists.specs.Filling.{filling_none, filling_more, filling_copied}
+use Rattle.sub_letters.proofs.keepers.put_keepers.Goals as goal
+
+pub loop-i-init : goal.loop-i-init
+loop-i-init c = filling_none
+
+pub overflow_cast-row : goal.overflow_cast-row
+overflow_cast-row c = omega (arith, c.requires.below c.loop-i.i (omega arith))
+
+pub loop-i-preserved : goal.loop-i-preserved
+loop-i-preserved c = filling_more c.loop-i.invariant c.loop-i-test.true refl
+
+pub returns : goal.returns
+returns c = filling_copied c.loop-i.invariant c.requires.room c.loop-i-test.false

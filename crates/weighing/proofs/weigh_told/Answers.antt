@@ -1,0 +1,45 @@
+-- `weighing::weigh_told` meets its contract: 0 says all that weighing wants, and any other number leaves the slot.
+-- Assumes nothing.
+use Rattle.std.proofs.Common.{ℕ, List, ◌≡◌, sym, ap, ◌∙◌, length, length-take-le}
+use Rattle.lists.specs.Listed.{length-listed}
+use Rattle.sub_letters.specs.JudgingLaws.{weigh_right, kept_lawful}
+use Rattle.sub_letters.specs.Subs.{froms_of}
+use Rattle.sub_letters.specs.declared.judging.Weighing.{Weighing}
+use Rattle.weighing.specs.WeighingLaws.{weighable, weigh_filled, weigh_judged}
+use Rattle.weighing.proofs.weigh_told.Goals as goal
+
+-- the sub-letters name as many old keepers as they are
+as_many : (froms letters keepers : List ℕ) → froms ≡ froms_of letters (length keepers) → length froms ≡ length keepers
+unfolding froms_of
+as_many froms letters keepers named = ap length named ∙ length-listed _ (length keepers)
+
+pub judge-judged-requires : goal.judge-judged-requires
+judge-judged-requires c =
+    let right = weigh_right _ _ _ _ _ c.requires.right in
+    record { terms = right.terms; named = c.requires.named; lent = right.lent }
+
+pub slice_bounds-row-end : goal.slice_bounds-row-end
+slice_bounds-row-end c = (weigh_right _ _ _ _ _ c.requires.right).terms.of_terms.length_most
+
+pub slice_bounds-fill-end : goal.slice_bounds-fill-end
+slice_bounds-fill-end c = sym (length-take-le _ _ (weigh_right _ _ _ _ _ c.requires.right).terms.of_terms.length_most)
+
+pub fill-requires : goal.fill-requires
+fill-requires c =
+    let right = weigh_right _ _ _ _ _ c.requires.right in
+    let many = as_many _ _ _ c.requires.named in
+    let size = length-take-le _ _ right.terms.of_terms.length_most in
+    let none = ap (λ (w : Weighing). w.number) (sym c.judge-judged.ensures) ∙ c.if-judged-eq0.true in
+    record {
+      weighable = weighable _ _ _ _ _ _ none right.lent right.terms c.requires.named many size;
+      row_length = size;
+      head = kept_lawful _ _ _ _ _ right;
+      room = right.slot_lent;
+    }
+
+pub returns-then-judged-eq0 : goal.returns-then-judged-eq0
+returns-then-judged-eq0 c =
+    weigh_filled _ _ _ _ _ c.requires.right c.judge-judged.ensures c.if-judged-eq0.true (rw (as_many _ _ _ c.requires.named) at c.fill.ensures)
+
+pub returns-else-judged-eq0 : goal.returns-else-judged-eq0
+returns-else-judged-eq0 c = weigh_judged _ _ _ _ _ c.requires.right c.judge-judged.ensures c.if-judged-eq0.false
