@@ -1,12 +1,6 @@
 -- From the report to the status.
 -- Assumes nothing.
-use Prim.Native.Nat.{ℕ, ◌≤◌}
-use mathlib.Core.Path.{◌≡◌, ap, ◌∙◌}
-use mathlib.Core.Bool.{Bool, true, false}
-use mathlib.Core.List.{List}
-use native.Mathlib.Omega.{arith}
-use lib.IntN.{ℤ, pos}
-use lib.ListN.{length, drop, length-append}
+use Rattle.std.proofs.Common.{ℕ, ◌≤◌, ◌≡◌, ap, ◌∙◌, Bool, true, false, List, arith, ℤ, pos, length, drop, length-append}
 use mir.Facts.{to_z_pos}
 use mir.Syntax.{w32}
 use mir.Val.{of_z, to_z}

@@ -33,7 +33,13 @@ pub fn wrote(rt: &HostRuntime, bytes: &[u8]) -> bool {
 pub fn refuse_words(rt: &HostRuntime) -> i32
     ensures { result ≡ pos 100 }
 {
-    say(rt, b"usage: report <INPUT, where INPUT is four bytes t, f, n, key and then the tray.\n");
-    say(rt, b"The status is the number of the answer, or 100 where no report was written.\n");
+    say(
+        rt,
+        b"usage: report <INPUT, where INPUT is four bytes t, f, n, key and then the tray.\n",
+    );
+    say(
+        rt,
+        b"The status is the number of the answer, or 100 where no report was written.\n",
+    );
     100
 }
