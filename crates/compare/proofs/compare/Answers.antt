@@ -3,8 +3,8 @@
 use Rattle.std.proofs.Common.{◌≡◌, sym, ◌∙◌, arith}
 use Rattle.compare.proofs.Comparing.{trays_have_parts, found_size, found_within, found_few, found_below, words_are, laid_are, count_is}
 use Rattle.compare.specs.Compare.{compare_refusal, refused, short, told}
-use Rattle.compare.specs.CompareLaws.{compare_facts}
-use Rattle.compare.specs.PartLaws.{beyond_enough, beyond_short}
+use Rattle.compare.proofs.CompareLaws.{compare_facts}
+use Rattle.compare.proofs.PartLaws.{beyond_enough, beyond_short}
 use Rattle.compare.proofs.compare.Goals as goal
 
 pub returns-then-number-ne0 : goal.returns-then-number-ne0

@@ -1,7 +1,7 @@
 -- `compare::too_many` meets its contract: a part has at most eight words that differ.
 -- Assumes nothing.
 use Rattle.std.proofs.Common.{sym, arith}
-use Rattle.compare.specs.PartLaws.{in_parts_most, beyond_none, beyond_all}
+use Rattle.compare.proofs.PartLaws.{in_parts_most, beyond_none, beyond_all}
 use Rattle.compare.proofs.too_many.Goals as goal
 
 pub returns-then-parts-places : goal.returns-then-parts-places

@@ -2,7 +2,7 @@
 -- Assumes nothing.
 use Rattle.std.proofs.Common.{ℕ, ◌<◌, ◌≤◌, ◌≡◌, ◌∙◌, true, List, arith}
 use Rattle.agree.specs.Rows.{Rows, row_word_lt}
-use Rattle.field.specs.Laws.{mod257_field}
+use Rattle.field.proofs.Laws.{mod257_field}
 use Rattle.join.specs.Judged.{few_judged, apart_judged, agreed_found, agreed_judged}
 use Rattle.join.specs.Lowest.{enough_agreed, hunted_agreed}
 use Rattle.lists.specs.KeeperSet.{member}

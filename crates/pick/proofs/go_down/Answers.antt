@@ -1,7 +1,7 @@
 -- `pick::go_down` meets its contract, rank by rank.
 -- Assumes nothing.
 use Rattle.std.proofs.Common.{ℕ, ◌≡◌, ◌≤◌, ◌<◌, sym, ◌∙◌, true, false, arith}
-use Rattle.field.specs.Laws.{mod257_field}
+use Rattle.field.proofs.Laws.{mod257_field}
 use Rattle.pick.proofs.Down.{passed_none, passed_joins, passed_more, passed_all}
 use Rattle.pick.specs.RefusalLaws.{pick_facts}
 use Rattle.pick.proofs.go_down.Goals as goal

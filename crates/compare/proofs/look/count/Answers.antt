@@ -1,7 +1,7 @@
 -- `compare::look::count` meets its contract, part by part.
 -- Assumes nothing.
 use Rattle.std.proofs.Common.{◌≤◌, refl, ap, ◌∙◌, arith, length, get_or, take_all}
-use Rattle.compare.specs.PartLaws.{have_fewer, in_part_most, length_more}
+use Rattle.compare.proofs.PartLaws.{have_fewer, in_part_most, length_more}
 use Rattle.compare.specs.Parts.{in_parts}
 use Rattle.compare.proofs.look.count.Goals as goal
 

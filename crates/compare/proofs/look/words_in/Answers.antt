@@ -3,7 +3,7 @@
 use Rattle.std.proofs.Common.{◌*◌, ◌≡◌, sym, ap, ◌∙◌, arith, length}
 use Rattle.compare.proofs.Turns.{counted_none, counted_most, counted_joined, counted_skipped}
 use Rattle.compare.specs.Compare.{differs}
-use Rattle.compare.specs.CompareLaws.{differs-told}
+use Rattle.compare.proofs.CompareLaws.{differs-told}
 use Rattle.compare.specs.Parts.{in_part}
 use Rattle.lists.specs.Chosen.{chosen}
 use Rattle.lists.specs.From.{from}

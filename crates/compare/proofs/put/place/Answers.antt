@@ -1,7 +1,7 @@
 -- `compare::put::place` meets its contract: word i of the bytes is what stands at place i.
 -- Assumes nothing.
 use Rattle.compare.specs.Compare.{difference}
-use Rattle.compare.specs.CompareLaws.{raw_word_lem}
+use Rattle.compare.proofs.CompareLaws.{raw_word_lem}
 use Rattle.compare.proofs.put.place.Goals as goal
 
 pub returns : goal.returns

@@ -2,7 +2,7 @@
 -- Assumes nothing.
 use Rattle.std.proofs.Common.{arith}
 use Rattle.compare.proofs.Putting.{laid_size, parts_none, parts_all, parts-room, parts_more}
-use Rattle.compare.specs.PartLaws.{have_fewer}
+use Rattle.compare.proofs.PartLaws.{have_fewer}
 use Rattle.compare.proofs.put.put.Goals as goal
 
 pub loop-q-init : goal.loop-q-init

@@ -3,7 +3,7 @@
 use Rattle.std.proofs.Common.{◌+◌, ◌*◌, ◌<◌, ◌≤◌, ◌≡◌, sym, ◌∙◌, true, arith, length}
 use Rattle.compare.proofs.Putting.{laid_size, to_none, to_all, to_skipped, to_room, to_joined}
 use Rattle.compare.specs.Compare.{differs}
-use Rattle.compare.specs.CompareLaws.{differs-told}
+use Rattle.compare.proofs.CompareLaws.{differs-told}
 use Rattle.compare.specs.Parts.{in_part}
 use Rattle.lists.specs.Chosen.{chosen}
 use Rattle.lists.specs.From.{from}

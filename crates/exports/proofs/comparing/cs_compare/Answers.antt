@@ -1,7 +1,7 @@
 -- `exports::comparing::cs_compare` meets its contract: what is counted are the words of a tray.
 -- Assumes nothing.
 use Rattle.std.proofs.Common.{arith}
-use Rattle.compare.specs.CompareLaws.{count_most}
+use Rattle.compare.proofs.CompareLaws.{count_most}
 use Rattle.exports.proofs.comparing.cs_compare.Goals as goal
 
 pub overflow_cast-result : goal.overflow_cast-result
