@@ -4,3 +4,4 @@ pub mod Gathering
 pub mod LargeGroups
 pub mod Next
 pub mod Said
+pub mod NumberLaws

@@ -1,5 +1,4 @@
 pub mod JoinGivesLaws
-pub mod NumberLaws
 pub mod Passing
 pub mod Pick
 pub mod PickedLaws

@@ -12,7 +12,7 @@ use Rattle.header.specs.declared.told.Told.{Told}
 use Rattle.header.specs.Order.{lawful_order}
 use Rattle.pick.specs.declared.Picked.{Picked}
 use Rattle.pick.specs.Pick.{PickDone}
-use Rattle.pick.specs.NumberLaws.{picked_number}
+use Rattle.pick.proofs.NumberLaws.{picked_number}
 use Rattle.join.specs.declared.Joined.{Joined}
 use Rattle.join.specs.Join.{JoinDone}
 use Rattle.join.specs.Join as join
