@@ -119,6 +119,7 @@ fn judge(told: Told, keeper: usize, held: &[u8], letter: &[u8]) -> Stored
 }
 
 // Judges a letter, and holds it where it is newer than what is held.
+#[tactic(auto, using(crate::specs::StoreLaws::taken_size), unfolding(crate::specs::Desk::store_leaves))]
 pub fn store(told: Told, keeper: usize, held: &mut [u8], letter: &[u8]) -> Stored
     ensures { StoreDone told keeper held.old letter.now result held.new }
 {
@@ -130,6 +131,7 @@ pub fn store(told: Told, keeper: usize, held: &mut [u8], letter: &[u8]) -> Store
 }
 
 // The number that fetching has: 1, 4, 17, or 0.
+#[tactic(auto, unfolding(crate::specs::Desk::fetch_number))]
 pub fn fetch_number(told: Told, keeper: usize, held: &[u8]) -> u32
     ensures { result ≡ fetch_number told keeper held.now }
 {
@@ -147,6 +149,7 @@ pub fn fetch_number(told: Told, keeper: usize, held: &[u8]) -> u32
 }
 
 // The held slot as a part of what was lent; an empty part where the number is not 0.
+#[tactic(auto, unfolding(crate::specs::Desk::fetched))]
 pub fn fetch(told: Told, keeper: usize, held: &[u8]) -> &[u8]
     ensures { result.now ≡ fetched told keeper held.now }
 {

@@ -9,6 +9,7 @@ use block::bounds::all_at_most;
 use block::words::word_at;
 
 // Whether words 0 and 1 are a mark and the edition.
+#[tactic(auto, unfolding(crate::specs::Rules::mark_right))]
 pub fn mark_right(mark: u16, block: &[u8]) -> bool
     requires { length block.now ≡ 512 }
     ensures { result ≡ mark_right mark (words_of block.now) }
