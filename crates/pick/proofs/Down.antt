@@ -131,8 +131,3 @@ module _ {O : Ops} {told : Told} {tray ranks : List ℕ} (are : RanksOf told tra
         pub passed_more : (first : Bool) → is_first number tried ≡ first → Passed O told tray next (cond first tried number) (cond first rank top)
         passed_more true e = passed_first e
         passed_more false e = passed_kept e
-
--- what is answered has the rank of a letter
-pub answered_bound : {O : Ops} {told : Told} {tray : List ℕ} {rank number top : ℕ} → Answer O told tray rank number top → top < 4398046511104
-answered_bound (nothing f) = omega arith
-answered_bound (greatest n m terms other J most) = omega (arith, terms)

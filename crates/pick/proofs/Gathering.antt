@@ -1,7 +1,7 @@
 -- Gathering the ranks of a tray, keeper after keeper.
 -- Assumes nothing.
 use Prim.Native.Nat.{ℕ, ◌+◌, ◌<◌, ◌≤◌}
-use mathlib.Core.Path.{◌≡◌, refl, ap, ◌∙◌}
+use mathlib.Core.Path.{◌≡◌, ap, ◌∙◌}
 use mathlib.Core.List.{List}
 use native.Mathlib.Omega.{arith}
 use lib.ListN.{length, get_or, set, length-set}
@@ -20,9 +20,6 @@ pub record GatheredTo (told : Told) (tray ranks₀ ranks : List ℕ) (k : ℕ) :
   pub at : (j : ℕ) → j < k → get_or ranks j 0 ≡ rank_at told tray j
 
 module _ {told : Told} {tray ranks₀ : List ℕ} where
-  pub gathered_none : GatheredTo told tray ranks₀ ranks₀ 0
-  gathered_none = record { reached = omega arith; size = refl; at = λ j l. absurd (omega arith) }
-
   module _ {ranks : List ℕ} {k : ℕ} (before : GatheredTo told tray ranks₀ ranks k) where
     pub gathered_all : told.order.n ≤ k → RanksOf told tray ranks
     gathered_all past = record { at = λ j l. before.at j (omega arith) }

@@ -3,8 +3,7 @@
 use Prim.Native.Nat.{ℕ, ◌+◌, ◌-◌, ◌≤◌, ◌<◌}
 use mathlib.Core.Path.{◌≡◌, sym, ap, ◌∙◌}
 use mathlib.Core.List.{List}
-use mathlib.Core.Logic.{⊎_elim}
-use native.Mathlib.Nat.{add-sub_cancel, eq-zero-or-pos}
+use native.Mathlib.Nat.{add-sub_cancel}
 use native.Mathlib.Omega.{arith}
 use lib.Dec.{eqb}
 use lib.ListN.{get_or}
@@ -45,7 +44,3 @@ module _ {told : Told} {tray ranks : List ℕ} (are : RanksOf told tray ranks) w
         let held : get_or ranks place 0 ≡ best = ap (λ i. get_or ranks i 0) (sym (add-sub_cancel place 1)) ∙ eqb-true _ _ one.passes in
         let here : rank_at told tray place ≡ best = sym (are.at place one.within) ∙ held in
         rw here at (rank_terms told tray place (omega arith))
-
--- and below every number that its bound is not above
-pub next_below : {ranks : List ℕ} {n least bound best : ℕ} (top : ℕ) → bound ≤ top → 1 ≤ top → NextOf ranks n least bound best → best < top
-next_below {best = best} top most some next = ⊎_elim (λ (e : best ≡ 0). omega arith) (λ least. omega (arith, (next.large least).0)) (eq-zero-or-pos best)

@@ -10,7 +10,7 @@ use lib.ListN.{get_or}
 use borrow.Author.Count.{below_more}
 use borrow.Author.Tests.{ltb-true, ltb-false, leb-true, lt-ltb, le-leb}
 use Rattle.header.specs.Passing.{and_left, and_right}
-use Rattle.pick.specs.Ranks.{size_of, comes_next, NextOf}
+use Rattle.pick.specs.Ranks.{size_of, comes_next}
 
 first_fails : (a b : Bool) → (a && b) ≡ false → b ≡ true → a ≡ false
 first_fails false b e passes = refl
@@ -23,13 +23,7 @@ pub record NextTo (ranks : List ℕ) (n least bound : ℕ) (best k : ℕ) : Type
   pub large : 1 ≤ best → (best < bound) × (least ≤ size_of ranks n best)
 
 module _ {ranks : List ℕ} {n least bound : ℕ} where
-  pub next_none : NextTo ranks n least bound 0 0
-  next_none = record { reached = omega arith; most = λ j l. absurd (omega arith); large = λ some. absurd (omega arith) }
-
   module _ {best k : ℕ} (before : NextTo ranks n least bound best k) where
-    pub next_all : n ≤ k → NextOf ranks n least bound best
-    next_all past = record { most = λ j l. before.most j (omega arith); large = before.large }
-
     module _ (within : k < n) where
       pub next_kept : comes_next ranks n least bound (get_or ranks k 0) best ≡ false → NextTo ranks n least bound best (k + 1)
       unfolding comes_next

@@ -40,6 +40,3 @@ module _ {before : List ℕ} {at n number usables set : ℕ} (few : n ≤ 16) (r
           size = ap length line.laid ∙ (length-patched between next (line_of number usables set k) fits ∙ done.size);
           written = rw add-one (written_more (omega (arith, room_for_line within, done.size)) done.written line);
         }
-
-    pub keepers_all : n ≤ k → Written before at (pieces (line_of number usables set) n) between next
-    keepers_all past = let last : k ≡ n = omega arith in rw last at done.written
