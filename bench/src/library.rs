@@ -72,13 +72,6 @@ pub struct Difference {
     pub second: u16,
 }
 
-/// Bytes that are lent for writing, as one function of the library hands them to another.
-#[repr(C)]
-struct Lent {
-    bytes: *mut u8,
-    count: usize,
-}
-
 impl From<JoinResult> for Joined {
     fn from(result: JoinResult) -> Joined {
         let JoinResult { number, usable, need, set, trials } = result;
@@ -258,7 +251,7 @@ macro_rules! calls {
 
                 /// No public call. The block must have 512 bytes.
                 #[link_name = $seal]
-                fn block_check_seal(block: *const Lent);
+                fn block_check_seal(block: *mut u8, count: usize);
             }
 
             pub fn cut(
@@ -423,9 +416,8 @@ macro_rules! calls {
             }
 
             pub fn seal(block: &mut [u8; BLOCK]) {
-                let lent = Lent { bytes: block.as_mut_ptr(), count: BLOCK };
                 // SAFETY: as in the cut, and a block has 512 bytes.
-                unsafe { block_check_seal(&lent) }
+                unsafe { block_check_seal(block.as_mut_ptr(), BLOCK) }
             }
         }
     };
