@@ -29,7 +29,7 @@ pub fn own() -> Owner {
     }
 }
 
-// The owner that a file of this user and group is to keep: where they are another's.
+// The owner that a file is to have, which is that of the one that it replaces.
 pub fn owner_of(user: u32, group: u32) -> Owner {
     Owner { user, group }
 }
