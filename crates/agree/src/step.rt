@@ -2,30 +2,13 @@
 ghost use Rattle.std.specs.Prelude.{◌≡◌, ◌+◌, ◌<◌, ◌≤◌, length, get_or};
 ghost use Rattle.std.specs.Int.Count.{ones};
 ghost use Rattle.lists.specs.KeeperSet.{member};
-ghost use Rattle.lists.specs.SameBytes.{same_bytes};
 ghost use Rattle.field.specs.Modulo.{mod257};
 ghost use Rattle.weigh.specs.Weigh.{carried, row_word, Carriage};
 ghost use Rattle.agree.specs.Kept.{Alike, InStep};
 ghost use Rattle.agree.specs.Rows.{Rows};
 
-use search::keepers::{first, has};
+use search::keepers::KeeperSet;
 use weigh::carry_row;
-
-// Whether two rows of one length are the same. Every word is looked at, so that many can be looked at together.
-fn same_words(a: &[u16], b: &[u16]) -> bool
-    requires { length a.now ≡ length b.now }
-    ensures { result ≡ same_bytes a.now b.now }
-{
-    let mut same = true;
-    let mut i = 0;
-    while i < a.len() {
-        if a[i] != b[i] {
-            same = false;
-        }
-        i += 1;
-    }
-    same
-}
 
 // The first place from `start` on at which two rows of one length differ, or their length. Most rows that are compared are the same.
 fn difference(a: &[u16], b: &[u16], start: usize) -> usize
@@ -33,17 +16,15 @@ fn difference(a: &[u16], b: &[u16], start: usize) -> usize
     requires start_within { start ≤ length a.now }
     ensures { Alike (λ j. get_or a.now j 0) (λ j. get_or b.now j 0) start (length a.now) result }
 {
-    if same_words(a, b) {
+    if a == b {
         return a.len();
     }
-    let mut i = start;
-    while i < a.len() {
+    for i in start..a.len() {
         if a[i] != b[i] {
             return i;
         }
-        i += 1;
     }
-    i
+    a.len()
 }
 
 // How far, from `start` on, the row of keeper k + 1 is the one carried to it from the points, which is left in `row`.
@@ -60,22 +41,20 @@ fn row_in_step(points: &[u16], rows: &[u16], k: usize, start: usize, row: &mut [
 }
 
 // A word from `start` on, up to which the keepers of the set are in step: at each word before it they lie on one polynomial.
-pub fn in_step(t: usize, set: u16, rows: &[u16], start: usize, l: usize) -> usize
+pub fn in_step(t: usize, set: KeeperSet, rows: &[u16], start: usize, l: usize) -> usize
     requires t_small { t ≤ 7 }
-    requires enough { t + 1 ≤ ones set }
+    requires enough { t + 1 ≤ ones set.bits }
     requires rows { Rows rows.now }
     requires bounds { (start ≤ l) × (l ≤ 952) }
-    ensures { InStep mod257 t 16 (member set) (row_word rows.now) start l result }
+    ensures { InStep mod257 t 16 (member set.bits) (row_word rows.now) start l result }
 {
-    let base = first(set, t);
+    let base = set.first(t);
     let mut row = [0u16; 952];
     let mut end = l;
-    let mut k = base[t] as usize;
-    while k < 16 {
-        if has(set, k) {
+    for k in usize::from(base[t])..16 {
+        if set.has(k) {
             end = row_in_step(&base[..t + 1], rows, k, start, &mut row[..end]);
         }
-        k += 1;
     }
     end
 }

@@ -1,8 +1,8 @@
 -- To be at most a number, every word of a list: tested, and as a bound.
 -- Assumes nothing.
-use Rattle.std.specs.Prelude.{ℕ, zero, suc, ◌+◌, ◌<◌, max, ◌≡◌, refl, true, ◌&&◌, List, [], ◌∷◌, ◌++◌, leb, length, get_or, take, replicate}
-use Rattle.std.proofs.Common.{sym, add-one, arith, ext_get_or, take-suc, le-leb, leb-true}
-use Rattle.std.proofs.Math.Bool.{and_assoc, and-true, and-false, and-eq-true_iff}
+use Rattle.std.specs.Prelude.{ℕ, zero, suc, ◌+◌, ◌<◌, max, ◌≡◌, refl, true, ◌&&◌, List, [], ◌∷◌, ◌++◌, leb, length, get_or, take, replicate, fold}
+use Rattle.std.proofs.Common.{sym, ◌∙◌, add-one, arith, ext_get_or, take-suc, le-leb, leb-true}
+use Rattle.std.proofs.Math.Bool.{and_assoc, and_comm, and-true, and-false, and-eq-true_iff}
 use Rattle.std.proofs.Math.Logic.{by_cases}
 use Rattle.std.proofs.Math.Decide.{dec_le}
 use Rattle.std.proofs.Math.Dec.{leb-zero}
@@ -47,6 +47,16 @@ leb_max a b top =
     by_cases (dec_le b top) (λ hb. rw (le-leb a top ha, le-leb b top hb, le-leb (max a b) top (omega arith)))
     (λ hb. rw (lt-leb b top (omega arith), and-false, lt-leb (max a b) top (omega arith))))
     (λ ha. rw (lt-leb a top (omega arith), lt-leb (max a b) top (omega arith)))
+
+-- the largest word tells of all of them
+fold_at_most : (top largest : ℕ) (ws : List ℕ) → leb (fold (λ m w. max w m) largest ws) top ≡ (leb largest top && all_at_most top ws)
+unfolding all_at_most
+fold_at_most top largest [] = sym (and-true (leb largest top))
+fold_at_most top largest (w ∷ ws) =
+    fold_at_most top (max w largest) ws ∙ rw (← leb_max w largest top, and_comm (leb w top) (leb largest top)) (and_assoc (leb largest top) (leb w top) (all_at_most top ws))
+
+pub largest_at_most : (top : ℕ) (ws : List ℕ) → leb (fold (λ m w. max w m) 0 ws) top ≡ all_at_most top ws
+largest_at_most top ws = fold_at_most top 0 ws ∙ rw leb-zero
 
 -- the largest of the first i words tells of all of them
 abbrev pub Largest : List ℕ → ℕ → ℕ → Type 0

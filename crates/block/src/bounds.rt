@@ -1,40 +1,24 @@
 // How large words are. Every word is looked at, whatever those before it were, so that many can be looked at together.
-ghost use Rattle.std.specs.Prelude.{◌≡◌, ◌-◌, ◌*◌, ◌≤◌, max, length, take, drop};
+ghost use Rattle.std.specs.Prelude.{◌≡◌, ◌-◌, ◌*◌, ◌≤◌, length, take, drop};
 ghost use Rattle.block.specs.Words.{words_of, exchanged_all};
 ghost use Rattle.block.specs.Check.{all_at_most};
 
-use crate::words::{exchanged, word_at};
-
-fn larger(a: u16, b: u16) -> u16
-    ensures { result ≡ max a b }
-{
-    if a < b { b } else { a }
-}
+use crate::words::word_at;
 
 // Whether each word is at most `top`.
 pub fn within(words: &[u16], top: u16) -> bool
     ensures { result ≡ all_at_most top words.now }
 {
-    let mut largest: u16 = 0;
-    let mut i = 0;
-    while i < words.len() {
-        largest = larger(largest, words[i]);
-        i += 1;
-    }
-    largest <= top
+    words.iter().fold(0, |largest, word| (*word).max(largest)) <= top
 }
 
 // Whether each word of a row, its bytes exchanged back, is at most `top`.
 pub(crate) fn exchanged_within(row: &[u16], top: u16) -> bool
     ensures { result ≡ all_at_most top (exchanged_all row.now) }
 {
-    let mut largest: u16 = 0;
-    let mut i = 0;
-    while i < row.len() {
-        largest = larger(largest, exchanged(row[i]));
-        i += 1;
-    }
-    largest <= top
+    row.iter()
+        .fold(0, |largest, word| word.swap_bytes().max(largest))
+        <= top
 }
 
 // Whether each word of some bytes from word `from` up to word `to` is at most `top`.
@@ -43,10 +27,8 @@ pub fn all_at_most(bytes: &[u8], from: usize, to: usize, top: u16) -> bool
     ensures { result ≡ all_at_most top (take (to - from) (drop from (words_of bytes.now))) }
 {
     let mut largest: u16 = 0;
-    let mut i = from;
-    while i < to {
-        largest = larger(largest, word_at(bytes, i));
-        i += 1;
+    for i in from..to {
+        largest = largest.max(word_at(bytes, i));
     }
     largest <= top
 }

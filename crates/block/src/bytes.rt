@@ -2,7 +2,7 @@
 ghost use Rattle.std.specs.Prelude.{◌≡◌};
 ghost use Rattle.lists.specs.SameBytes.{same_bytes};
 
-// Whether the same bytes are lent twice. Every byte is looked at, so that many can be looked at together.
+// Whether the same bytes are lent twice. Every byte is looked at, so that many can be looked at together: the `==` of slices compares one after another.
 pub fn same(a: &[u8], b: &[u8]) -> bool
     ensures { result ≡ same_bytes a.now b.now }
 {
@@ -10,12 +10,8 @@ pub fn same(a: &[u8], b: &[u8]) -> bool
         return false;
     }
     let mut same = true;
-    let mut i = 0;
-    while i < a.len() {
-        if a[i] != b[i] {
-            same = false;
-        }
-        i += 1;
+    for (i, byte) in a.iter().enumerate() {
+        same &= *byte == b[i];
     }
     same
 }

@@ -1,18 +1,16 @@
 -- A draw of 16 bits as a random word, "each of 0..256 equally likely".
 -- Assumes nothing.
-use Rattle.std.specs.Prelude.{ℕ, ◌+◌, ◌-◌, ◌%◌, ◌<◌, ◌≤◌, ◌≡◌, cond, List, map, ltb, length, get_or, take}
-use Rattle.lists.specs.Chosen.{chosen}
+use Rattle.std.specs.Prelude.{ℕ, ◌+◌, ◌-◌, ◌%◌, ◌<◌, ◌≤◌, ◌≡◌, cond, List, filter_map, ltb, length, get_or, take, Option, Some, None}
 use Rattle.lists.specs.Patched.{patched}
 use Rattle.block.specs.Words.{words_of}
-use Rattle.chance.specs.declared.Drawing.{Drawing}
 
 -- a draw below 65535 gives its remainder modulo 257; 65535 gives nothing, and is drawn again
-abbrev pub drawn : ℕ → Drawing
-drawn draw = record { taken = ltb draw 65535; word = cond (ltb draw 65535) (draw % 257) 0 }
+abbrev pub drawn : ℕ → Option ℕ
+drawn draw = cond (ltb draw 65535) (Some (draw % 257)) None
 
 -- the words of those draws that are taken, in order
 abbrev pub words_drawn : List ℕ → List ℕ
-words_drawn draws = map (λ d. (drawn d).word) (chosen (λ d. (drawn d).taken) draws)
+words_drawn draws = filter_map drawn draws
 
 -- the words that bytes give: two by two, high byte first, the bytes are draws
 abbrev pub words_given : List ℕ → List ℕ

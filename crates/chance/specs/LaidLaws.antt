@@ -1,18 +1,18 @@
 -- Words laid over others one draw after the other, as many as there is room for.
 -- Assumes nothing.
-use Rattle.std.specs.Prelude.{ℕ, zero, suc, ◌+◌, ◌-◌, ◌%◌, ◌<◌, ◌≤◌, ◌≡◌, true, false, List, [], ◌∷◌, ◌++◌, length, get_or, take, set}
+use Rattle.std.specs.Prelude.{ℕ, zero, suc, ◌+◌, ◌-◌, ◌<◌, ◌≤◌, ◌≡◌, List, [], ◌∷◌, ◌++◌, length, get_or, take, set, Some, None}
 use Rattle.std.proofs.Common.{sym, ap, ap₂, ◌∙◌, add-one, arith, length-append, length-take, take_all, take-suc}
-use Rattle.std.proofs.lemmas.List.{map-append, set_split}
+use Rattle.std.proofs.lemmas.List.{set_split}
+use Rattle.std.proofs.lemmas.List.Elements.{filter_map-append}
 use Rattle.std.proofs.Math.Nat.{sub-zero, suc-sub-suc}
 use Rattle.std.proofs.Math.Seq.{take-nil}
-use Rattle.lists.specs.Chosen.{chosen, chosen-append}
 use Rattle.lists.specs.Patched.{patched, patched_none, patched_more, length-patched}
 use Rattle.chance.specs.Draw.{drawn, words_drawn, Laid}
 
 -- one draw more at the end: its word too, if it is taken
 pub drawn_more : (draws : List ℕ) (i : ℕ) → i < length draws
     → words_drawn (take (i + 1) draws) ≡ words_drawn (take i draws) ++ words_drawn (get_or draws i 0 ∷ [])
-drawn_more draws i h = rw (add-one, take-suc draws i 0, chosen-append, map-append)
+drawn_more draws i h = rw (add-one, take-suc draws i 0, filter_map-append)
 
 pub laid_none : (old : List ℕ) (from : ℕ) → Laid old from [] old from
 laid_none old from =
@@ -20,8 +20,7 @@ laid_none old from =
     record { words = rw none (sym (patched_none old from)); next = rw none (omega arith) }
 
 -- a draw that is not taken, one that finds no room, and one that is taken and finds room
-pub laid_left : (old : List ℕ) (from d : ℕ) → (drawn d).taken ≡ false → Laid old from (words_drawn (d ∷ [])) old from
-unfolding chosen
+pub laid_left : (old : List ℕ) (from d : ℕ) → drawn d ≡ None → Laid old from (words_drawn (d ∷ [])) old from
 laid_left old from d e = rw e (laid_none old from)
 
 pub laid_full : (old : List ℕ) (from : ℕ) (given : List ℕ) → from ≡ length old → Laid old from given old from
@@ -34,10 +33,8 @@ laid_one old from w h =
     let one : take (length old - from) (w ∷ []) ≡ w ∷ [] = take_all (length old - from) (w ∷ []) (omega arith) in
     record { words = rw one (set_split old from w h ∙ rw (add-one from)); next = rw one }
 
-pub laid_taken : (old : List ℕ) (from d w : ℕ) → (drawn d).taken ≡ true → w ≡ (drawn d).word → from < length old
-    → Laid old from (words_drawn (d ∷ [])) (set old from w) (from + 1)
-unfolding chosen
-laid_taken old from d w e same h = rw (same, e) (rw e (laid_one old from (d % 257) h))
+pub laid_taken : (old : List ℕ) (from d w : ℕ) → drawn d ≡ Some w → from < length old → Laid old from (words_drawn (d ∷ [])) (set old from w) (from + 1)
+laid_taken old from d w e h = rw e (laid_one old from w h)
 
 -- what is laid right behind is laid over in one
 take-append : (n : ℕ) (xs ys : List ℕ) → take n (xs ++ ys) ≡ take n xs ++ take (n - length xs) ys

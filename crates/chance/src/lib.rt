@@ -1,7 +1,7 @@
 // Random words for a cut, each of 0 .. 256 as likely as any other, from the system's own source.
 #![tactic(auto)]
 
-ghost use Rattle.std.specs.Prelude.{◌≡◌, true, length, OnOk, ◌+◌, ◌*◌, ◌<◌, [], ◌∷◌};
+ghost use Rattle.std.specs.Prelude.{◌≡◌, true, length, OnOk, [], ◌∷◌};
 ghost use Rattle.block.specs.Check.{all_at_most};
 ghost use Rattle.chance.specs.Draw.{words_drawn, words_given, Laid, Begun};
 ghost use Rattle.chance.specs.Draw.{drawn as Draw·drawn};
@@ -9,34 +9,11 @@ ghost use Rattle.chance.specs.Draw.{drawn as Draw·drawn};
 use std::io::Error;
 use std::random::RandomSource;
 
-// What a draw of 16 bits gives: a word, or nothing, and then it is drawn again.
-#[derive(Drop)]
-pub struct Drawing {
-    pub taken: bool,
-    pub word: u16,
-}
-
-// 257 goes 255 times into the draws below 65535, and 65535 is left over.
-pub fn drawn(draw: u16) -> Drawing
+// What a draw of 16 bits gives: a word, or nothing, and then it is drawn again. 257 goes 255 times into the draws below 65535, and 65535 is left over.
+pub fn drawn(draw: u16) -> Option<u16>
     ensures { result ≡ Draw·drawn draw }
 {
-    if draw < 65535 {
-        Drawing {
-            taken: true,
-            word: draw % 257,
-        }
-    } else {
-        Drawing {
-            taken: false,
-            word: 0,
-        }
-    }
-}
-
-fn pair(high: u8, low: u8) -> u16
-    ensures { result ≡ high * 256 + low }
-{
-    (high as u16) * 256 + (low as u16)
+    if draw < 65535 { Some(draw % 257) } else { None }
 }
 
 // Puts the word of a draw behind those that there are, if it is taken and has a place, and answers how many there are then.
@@ -45,14 +22,13 @@ fn put(words: &mut [u16], count: usize, draw: u16) -> usize
     ensures begun { Begun words.new result }
     ensures laid { Laid words.old count (words_drawn (draw ∷ [])) words.new result }
 {
-    let outcome = drawn(draw);
-    if !outcome.taken {
+    let Some(word) = drawn(draw) else {
         return count;
-    }
+    };
     if count == words.len() {
         return count;
     }
-    words[count] = outcome.word;
+    words[count] = word;
     count + 1
 }
 
@@ -64,12 +40,9 @@ fn fill_from(bytes: &[u8; 256], words: &mut [u16], from: usize) -> usize
     ensures laid { Laid words.old from (words_given bytes.now) words.new result }
 {
     let mut count = from;
-    let mut i = 0;
-    while i < 128 {
-        let high = bytes[2 * i];
-        let low = bytes[2 * i + 1];
-        count = put(words, count, pair(high, low));
-        i += 1;
+    for i in 0..128 {
+        let draw = u16::from_be_bytes([bytes[2 * i], bytes[2 * i + 1]]);
+        count = put(words, count, draw);
     }
     count
 }
@@ -83,11 +56,12 @@ pub fn fill(rt: &HostRuntime, words: &mut [u16]) -> Result<(), Error>
 {
     let mut bytes = [0u8; 256];
     let mut count = 0;
-    let mut calls: u64 = 0;
-    while count < words.len() && calls < 1000 {
+    'calls: for _ in 0..1000 {
+        if count == words.len() {
+            return Ok(());
+        }
         rt.fill_bytes(&mut bytes)?;
         count = fill_from(&bytes, words, count);
-        calls += 1;
     }
     if count == words.len() {
         Ok(())

@@ -1,161 +1,130 @@
 // move-check --from T,F,N --order T,F,N --key K OLD NEW: whether a tray of old letters and one of moved letters give the same key. The keys are written nowhere.
 #![tactic(auto)]
 
-ghost use Rattle.std.specs.Prelude.{◌*◌, ◌≤◌, ◌≡◌, length};
+ghost use Rattle.std.specs.Prelude.{◌<◌, ◌≤◌, ◌^◌, length, IfOk};
 
-use block::bytes::same;
-use commands::told::{slots_of, told_of};
-use ending::{answered, status_for, written};
+use commands::told::slots_of;
+use ending::{answered, status_for};
+use header::terms::Terms;
 use header::told::Told;
 use join::join;
 use joins::joining::room_for;
 use joins::newer::say_newer;
 use options::given::Given;
 use pick::pick;
+use refusals::Refusal;
 use saving::save::said;
-use saying::line::{add, four, say};
+use saying::line::Line;
+use saying::status::Status;
 use showing::{put_key_line, put_same_line};
+use std::fmt::Write;
 use system::output::Stream;
-use system::words::word;
-use trays::comparing::fill;
+use trays::loading::filled;
 
-// What a tray gives: 0 with the stamp and the length of what was joined, or the number that says why not.
-#[derive(Drop)]
-struct Found {
-    number: u32,
-    stamp: u32,
-    length: usize,
+// One of the two trays.
+#[derive(Clone, Copy, Debug, PartialEq, Eq)]
+enum Side {
+    Old,
+    New,
 }
 
-// How many bytes of a room are a key, or what to end with where that is not 0.
-#[derive(Drop)]
-struct Key {
-    status: i32,
-    length: usize,
-}
+impl Side {
+    fn word(self) -> &'static str
+        ensures { length result.now ≤ 3 }
+    {
+        match self {
+            Side::Old => "old",
+            Side::New => "new",
+        }
+    }
 
-// The same, of the order from which the key was moved.
-fn with_old_order(g: Given) -> Given {
-    let mut w = g;
-    w.t = g.old_t;
-    w.f = g.old_f;
-    w.n = g.old_n;
-    w
-}
+    // What its letters are of.
+    fn told(self, g: &Given) -> Told {
+        match self {
+            Side::Old => Told {
+                order: g.old,
+                key: g.terms.told.key,
+            },
+            Side::New => g.terms.told,
+        }
+    }
 
-fn say_without(rt: &HostRuntime, name: &[u8], side: &[u8]) {
-    let mut out = [0u8; 8192];
-    let named = four(&mut out, b"csalgodes: ", name, b": the ", side);
-    let count = add(&mut out, named, b" letters give no key");
-    say(rt, &mut out, count);
+    // The name of its folder.
+    fn folder<'a>(self, rt: &HostRuntime, g: &Given, room: &'a mut [u8]) -> &'a [u8] {
+        match self {
+            Side::Old => g.first_name(rt, room),
+            Side::New => g.second_name(rt, room),
+        }
+    }
 }
 
 // Says which tray gives no key, and why.
-fn without_key(rt: &HostRuntime, at: usize, side: &[u8], number: u32) -> i32 {
-    let mut name = io::buffer();
-    let count = word(rt, at, &mut name).count;
-    say_without(rt, &name[..count], side);
-    answered(rt, number, 0)
+fn without_key(rt: &HostRuntime, folder: &[u8], side: Side, refusal: Refusal) -> Status {
+    let mut line = Line::new();
+    line.add(folder);
+    let word = side.word();
+    let _ = write!(line, ": the {word} letters give no key");
+    line.say(rt);
+    answered(rt, refusal.number(), 0)
 }
 
-fn say_key(rt: &HostRuntime, side: &[u8], key: u32, stamp: u32, l: u32) -> bool
-    requires { length side.now ≤ 3 }
+fn say_key(
+    rt: &HostRuntime,
+    side: Side,
+    key: usize,
+    stamp: u32,
+    length: usize,
+) -> Result<(), Status>
+    requires key_small { key < 2 ^ 32 }
+    requires length_small { length ≤ 952 }
 {
-    let mut out = [0u8; 128];
-    let count = put_key_line(&mut out, side, key, stamp, l);
-    said(rt, Stream::Output, &out[..count])
+    let line = put_key_line(side.word().as_bytes(), key as u32, stamp, length as u32);
+    said(rt, Stream::Output, line.bytes())
 }
 
-// Picks and joins, into a room for any key.
-fn find(told: Told, tray: &[u8], room: &mut [u8]) -> Found
-    requires { length room.old ≡ 952 }
-    ensures { result.length ≤ 952 }
+// What a tray gives: how it was cut, and that its key stands at the start of a room.
+fn find(told: Told, tray: &[u8], room: &mut [u8; 952]) -> Result<Terms, Refusal>
+    ensures { IfOk result (λ terms. terms.length ≤ 952) }
 {
     let choice = pick(told, tray);
-    let l = room_for(choice.length);
-    if choice.number != 0 {
-        return Found {
-            number: choice.number,
-            stamp: choice.stamp,
-            length: l,
-        };
-    }
-    let joined = join(told, choice.stamp, l, tray, &mut room[..l]);
-    Found {
-        number: joined.number,
+    choice.outcome?;
+    let length = room_for(choice.length);
+    let terms = Terms {
+        told,
         stamp: choice.stamp,
-        length: l,
-    }
-}
-
-// Says what was found, and answers 0 where it is a key.
-fn say_found(rt: &HostRuntime, g: Given, at: usize, side: &[u8], found: Found, tray: &[u8]) -> i32
-    requires { (length side.now ≤ 3) × (found.length ≤ 952) }
-{
-    if found.number != 0 {
-        return without_key(rt, at, side, found.number);
-    }
-    say_newer(rt, told_of(g), found.stamp, tray);
-    written(say_key(rt, side, g.key, found.stamp, found.length as u32))
-}
-
-fn load_and_find(
-    rt: &HostRuntime,
-    g: Given,
-    at: usize,
-    side: &[u8],
-    n: u32,
-    tray: &mut [u8],
-    room: &mut [u8],
-) -> Key
-    requires { (length side.now ≤ 3) × ((length tray.old ≡ 2048 * n) × (length room.old ≡ 952)) }
-{
-    if !fill(rt, at, n, tray) {
-        return Key {
-            status: 100,
-            length: 0,
-        };
-    }
-    let found = find(told_of(g), tray, room);
-    let length = found.length;
-    Key {
-        status: say_found(rt, g, at, side, found, tray),
         length,
-    }
+    };
+    join(terms, tray, &mut room[..length]).outcome?;
+    Ok(terms)
 }
 
-// Puts the key of the tray that a word names into a room of zeros. Says what is wrong where there is none.
-fn key_of(rt: &HostRuntime, g: Given, at: usize, side: &[u8], room: &mut [u8]) -> Key
-    requires side_len { length side.now ≤ 3 }
-    requires room_len { length room.old ≡ 952 }
-{
-    let n = slots_of(g);
-    let size = 2048 * n as usize;
-    let mut tray = [0u8; 32768];
-    load_and_find(rt, g, at, side, n, &mut tray[..size], room)
+// The key of one of the trays, put into a room. Says what is wrong where there is none.
+fn key_of<'a>(
+    rt: &HostRuntime,
+    g: &Given,
+    side: Side,
+    room: &'a mut [u8; 952],
+) -> Result<&'a [u8], Status> {
+    let told = side.told(g);
+    let n = slots_of(told);
+    let mut slots = [0u8; 32768];
+    let tray = &mut slots[..2048 * n as usize];
+    let mut name = io::buffer();
+    let folder = side.folder(rt, g, &mut name);
+    filled(rt, folder, n, tray)?;
+    let found = find(told, tray, room).map_err(|refusal| without_key(rt, folder, side, refusal))?;
+    say_newer(rt, told, found.stamp, tray);
+    say_key(rt, side, g.terms.told.key, found.stamp, found.length)?;
+    Ok(&room[..found.length])
 }
 
 // Says whether the keys are the same, and ends so.
-fn end(rt: &HostRuntime, same: bool) -> i32 {
-    let mut out = [0u8; 128];
-    let count = put_same_line(&mut out, same);
-    if !said(rt, Stream::Output, &out[..count]) {
-        return 100;
-    }
-    status_for(if same { 0 } else { 1 })
-}
-
-// Behind a key its room has zeros, so that keys of one length are the same where their rooms are.
-pub fn run(rt: &HostRuntime, g: Given) -> i32 {
+pub fn run(rt: &HostRuntime, g: &Given) -> Result<(), Status> {
     let mut old_room = [0u8; 952];
-    let old = key_of(rt, with_old_order(g), g.first, b"old", &mut old_room);
-    if old.status != 0 {
-        return old.status;
-    }
+    let old = key_of(rt, g, Side::Old, &mut old_room)?;
     let mut new_room = [0u8; 952];
-    let new = key_of(rt, g, g.second, b"new", &mut new_room);
-    if new.status != 0 {
-        return new.status;
-    }
-    end(rt, old.length == new.length && same(&old_room, &new_room))
+    let new = key_of(rt, g, Side::New, &mut new_room)?;
+    let same = old == new;
+    said(rt, Stream::Output, put_same_line(same).bytes())?;
+    status_for(u32::from(!same))
 }

@@ -1,37 +1,32 @@
 // The words that a command is given, read one after the other: its options with their values, and the names.
 #![tactic(auto)]
 
-use crate::word::step;
-use options::form::whole;
-use options::given::{Given, none};
-use system::words::word_count;
+use crate::reader::Reader;
+use options::command::Command;
+use options::given::Given;
+use options::option::Opt;
+use options::places::Places;
+use saying::status::Status;
 
-mod value;
-mod word;
+mod reader;
 
-// Whether there are words left to read.
-fn goes_on(g: Given, count: usize) -> bool {
-    g.right && (!g.help && g.next < count)
-}
-
-fn read_all(rt: &HostRuntime, count: usize, command: usize) -> Given {
-    let mut g = none();
-    let mut turns = count;
-    while turns > 0 {
-        if !goes_on(g, count) {
-            return g;
-        }
-        g = step(rt, g, command);
-        turns -= 1;
-    }
-    g
+// What the words behind a command ask for.
+#[derive(Drop)]
+pub enum Asked {
+    Help,
+    Run(Given),
 }
 
 // Reads the words behind a command, and says which one is wrong where one is.
-pub fn read(rt: &HostRuntime, command: usize) -> Given {
-    let g = read_all(rt, word_count(rt), command);
-    if g.help || !g.right {
-        return g;
+pub fn read(rt: &HostRuntime, command: Command) -> Result<Asked, Status> {
+    let mut reader = Reader::new(rt, command);
+    let mut places = Places::behind_command(rt);
+    while let Some(at) = places.next() {
+        reader.step(at, &mut places)?;
+        if reader.given.has(Opt::Help) {
+            return Ok(Asked::Help);
+        }
     }
-    whole(rt, g, command)
+    reader.whole()?;
+    Ok(Asked::Run(reader.given))
 }

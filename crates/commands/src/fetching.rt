@@ -1,47 +1,42 @@
 // fetch --order T,F,N --key K --keeper X [--replace] DESK LETTER: hands out the letter that a desk holds.
-use ending::{answered, written};
-use exports::keeping::cs_fetch;
-use files::load::{Got, load};
-use options::form::{REPLACE, has};
+use crate::desks::loaded;
+use desk::fetch;
+use ending::answered;
 use options::given::Given;
+use options::option::Opt;
 use saving::save::{is_writable, put_out};
+use saying::status::Status;
 use saying::{refused, trouble};
-use system::words::word;
 
-fn hand_out(rt: &HostRuntime, g: Given, slot: &[u8], out: &[u8]) -> i32 {
-    let number = cs_fetch(g.t, g.f, g.n, g.key, g.keeper, slot);
-    if number != 0 {
-        return answered(rt, number, 0);
-    }
-    written(put_out(rt, out, slot, has(g.seen, REPLACE)))
+// Hands out what a desk holds.
+fn hand_out(rt: &HostRuntime, g: &Given, desk: &[u8], out: &[u8]) -> Result<(), Status> {
+    let mut room = [0u8; 2049];
+    let count = loaded(
+        rt,
+        desk,
+        &mut room,
+        || {
+            refused(
+                rt,
+                desk,
+                b"is no plain file: a desk is a file of 2048 bytes",
+            )
+        },
+        |error| trouble(rt, desk, b"cannot be read", error),
+    )?;
+    let letter = fetch(g.terms.told, g.keeper, &room[..count]).map_err(|refusal| answered(
+        rt,
+        refusal.number(),
+        0,
+    ))?;
+    put_out(rt, out, letter, g.has(Opt::Replace))
 }
 
-// A desk that is not there is a new one, and holds nothing.
-fn fetch(rt: &HostRuntime, g: Given, desk: &[u8], out: &[u8]) -> i32 {
-    let empty = [0u8; 2048];
-    let mut slot = [0u8; 2049];
-    let loaded = load(rt, desk, false, &mut slot);
-    let count = loaded.count;
-    let got = loaded.got;
-    match got {
-        Got::Read => hand_out(rt, g, &slot[..count], out),
-        Got::Missing => hand_out(rt, g, &empty, out),
-        Got::NoFile => refused(
-            rt,
-            desk,
-            b"is no plain file: a desk is a file of 2048 bytes",
-        ),
-        Got::Trouble(error) => trouble(rt, desk, b"cannot be read", error),
-    }
-}
-
-pub fn run(rt: &HostRuntime, g: Given) -> i32 {
-    let mut desk = io::buffer();
-    let desk_named = word(rt, g.first, &mut desk).count;
-    let mut out = io::buffer();
-    let out_named = word(rt, g.second, &mut out).count;
-    if !is_writable(rt, &out[..out_named], has(g.seen, REPLACE)) {
-        return 100;
-    }
-    fetch(rt, g, &desk[..desk_named], &out[..out_named])
+pub fn run(rt: &HostRuntime, g: &Given) -> Result<(), Status> {
+    let mut desk_room = io::buffer();
+    let desk = g.first_name(rt, &mut desk_room);
+    let mut out_room = io::buffer();
+    let out = g.second_name(rt, &mut out_room);
+    is_writable(rt, out, g.has(Opt::Replace))?;
+    hand_out(rt, g, desk, out)
 }

@@ -1,7 +1,8 @@
-// The commands on letters and desks: files in, one call of the library's, files out. Each answers the status that the program ends with.
+// The commands on letters and desks: files in, one call of the library's, files out. Each says how the program ends.
 #![tactic(auto)]
 
 pub mod cutting;
+mod desks;
 pub mod fetching;
 pub mod reading;
 pub mod storing;

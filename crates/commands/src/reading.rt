@@ -1,33 +1,45 @@
 // show LETTER: what a letter is of.
-use ending::{answered, written};
-use exports::reading::{ReadResult, cs_read};
-use files::load::given_by;
+ghost use Rattle.std.specs.Prelude.{◌≡◌, true};
+ghost use Rattle.header.specs.Head.{lawful_head};
+
+use crate::told::faulty;
+use files::load::given;
+use format::reader::read;
+use header::head::Head;
 use options::given::Given;
 use saving::save::said;
+use saying::status::Status;
 use showing::put_letter_line;
 use system::output::Stream;
 
 // The line of a good letter.
-fn show_good(rt: &HostRuntime, r: ReadResult) -> i32 {
-    let mut out = [0u8; 128];
-    let count = put_letter_line(&mut out, r.t, r.f, r.n, r.key, r.keeper, r.stamp, r.length);
-    written(said(rt, Stream::Output, &out[..count]))
+#[tactic(auto, using(header::specs::HeadLaws::lawful_head_facts))]
+fn show(rt: &HostRuntime, head: Head) -> Result<(), Status>
+    requires { lawful_head head ≡ true }
+{
+    let order = head.told.order;
+    let line = put_letter_line(
+        order.t as u32,
+        order.f as u32,
+        order.n as u32,
+        head.told.key as u32,
+        head.keeper as u32,
+        head.stamp,
+        head.length as u32,
+    );
+    said(rt, Stream::Output, line.bytes())
 }
 
-fn show(rt: &HostRuntime, slot: &[u8]) -> i32 {
-    let r = cs_read(slot);
-    if r.number != 0 {
-        return answered(rt, r.number, r.place);
+fn show_slot(rt: &HostRuntime, slot: &[u8]) -> Result<(), Status> {
+    match read(slot) {
+        Ok(head) => show(rt, head),
+        Err(fault) => Err(faulty(rt, fault)),
     }
-    show_good(rt, r)
 }
 
-pub fn run(rt: &HostRuntime, g: Given) -> i32 {
-    let mut slot = [0u8; 2049];
-    let got = given_by(rt, g.first, &mut slot);
-    if !got.right {
-        return 100;
-    }
-    let count = got.count;
-    show(rt, &slot[..count])
+pub fn run(rt: &HostRuntime, g: &Given) -> Result<(), Status> {
+    let mut name = io::buffer();
+    let mut room = [0u8; 2049];
+    let slot = given(rt, g.first_name(rt, &mut name), &mut room)?;
+    show_slot(rt, slot)
 }

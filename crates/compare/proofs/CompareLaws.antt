@@ -17,7 +17,7 @@ use Rattle.header.specs.Order.{lawful_order}
 use Rattle.header.specs.OrderLaws.{lawful_order_facts}
 use Rattle.header.specs.Passing.{passing}
 use Rattle.tray.specs.Tray.{slot_of}
-use Rattle.compare.specs.declared.Compared.{Compared}
+use Rattle.compare.specs.Compare.{Compared}
 use Rattle.compare.specs.Compare.{slot_at, block_at, word_at, raw_word, differs, difference, differences, compare_refusal, CompareDone, refused, short, told}
 use Rattle.compare.specs.CompareLaws.{CompareFacts}
 

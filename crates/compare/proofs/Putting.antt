@@ -1,6 +1,6 @@
 -- Writing the places of parts that differ, word by word and part by part.
 -- Assumes nothing.
-use Prim.Native.Nat.{ℕ, ◌+◌, ◌<◌, ◌≤◌}
+use Prim.Native.Nat.{ℕ, ◌+◌, ◌*◌, ◌<◌, ◌≤◌}
 use mathlib.Core.Path.{◌≡◌, refl, sym, ap, ◌∙◌}
 use mathlib.Core.Bool.{Bool, true, false}
 use mathlib.Core.List.{List, [], ◌∷◌, ◌++◌, map, map-append}
@@ -11,7 +11,7 @@ use Rattle.lists.specs.Chosen.{chosen}
 use Rattle.lists.specs.ChosenFrom.{chosen_joined, chosen_skipped, chosen_up_to}
 use Rattle.lists.specs.From.{from}
 use Rattle.lists.specs.Patched.{patched_none, patched_more, set-patched, length-patched}
-use Rattle.compare.specs.Compare.{difference}
+use Rattle.compare.specs.Compare.{differs, difference}
 use Rattle.compare.specs.Parts.{in_part, in_parts, Laid}
 use Rattle.compare.proofs.PartLaws.{in_parts-append, in_parts_more, length_more}
 
@@ -79,6 +79,19 @@ module _ {test : ℕ → Bool} {a : ℕ} {rule : ℕ → List ℕ} {old : List (
           within = omega arith;
           laid_to = rw (chosen_joined test a j e) (laid_more before.laid_to (omega (arith, laid_size before.laid_to, before.laid_to.behind, to_room)) r);
         }
+
+-- the same of the words of a part
+module _ (first second : List ℕ) (p : ℕ) {rule : ℕ → List ℕ} {old : List (List ℕ)} {at j : ℕ} {list : List (List ℕ)} {next : ℕ} where
+  pub part_room : LaidTo (differs first second) (8 * p) rule old at j list next → j < 8 → at + length (in_part first second p) ≤ length old
+      → differs first second (8 * p + j) ≡ true → next < length list
+  unfolding in_part
+  part_room before more room e = to_room before more room e
+
+  pub part_joined : LaidTo (differs first second) (8 * p) rule old at j list next → j < 8 → at + length (in_part first second p) ≤ length old
+      → differs first second (8 * p + j) ≡ true → {row : List ℕ} → row ≡ rule (8 * p + j)
+      → LaidTo (differs first second) (8 * p) rule old at (j + 1) (set list next row) (next + 1)
+  unfolding in_part
+  part_joined before more room e r = to_joined before more room e r
 
 -- of the parts, the places of the first q are laid
 pub record LaidParts (first second : List ℕ) (old : List (List ℕ)) (parts : List ℕ) (q : ℕ) (list : List (List ℕ)) (next : ℕ) : Type 0 where

@@ -1,13 +1,15 @@
 -- What changed between two trays of one order.
 -- Assumes nothing.
-use Rattle.std.specs.Prelude.{ℕ, ◌+◌, ◌*◌, ◌/◌, ◌%◌, ◌≤◌, ◌<◌, ◌≡◌, Bool, not, cond, ◌&&◌, List, [], ◌∷◌, ◌++◌, map, eqb, length, get_or, drop}
+use Rattle.std.specs.Prelude.{ℕ, ◌+◌, ◌*◌, ◌/◌, ◌%◌, ◌≤◌, ◌<◌, ◌≡◌, Bool, not, cond, ◌&&◌, Result, Ok, Err, List, [], ◌∷◌, ◌++◌, map, eqb, length, get_or, drop}
 use Rattle.lists.specs.Chosen.{chosen}
 use Rattle.lists.specs.From.{from}
+use Rattle.refusals.specs.Numbers.{code}
 use Rattle.header.specs.declared.order.Order.{Order}
 use Rattle.header.specs.Order.{lawful_order}
 use Rattle.format.specs.Reading.{block_words}
 use Rattle.tray.specs.Tray.{slot_of}
-use Rattle.compare.specs.declared.Compared.{Compared}
+use Rattle.compare.specs.declared.Unlisted.{Unlisted}
+use Rattle.compare.specs.declared.Unlisted.TheVariants.{Refused, TooMany}
 
 -- "places (slot, block, word)": place i, counted from 0 in rising order, lies in this slot. A slot has 1,024 words, and the first is slot 1
 abbrev pub slot_at : ℕ → ℕ
@@ -42,9 +44,20 @@ unfoldable pub compare_refusal : Order → List ℕ → List ℕ → ℕ
 compare_refusal order first second =
     cond (lawful_order order) (cond (eqb (length first) (2048 * order.n) && eqb (length second) (2048 * order.n)) 0 4) 1
 
+-- what a comparison answers, in the page's numbers: one, and how many differences there are
+pub record Compared : Type 0 where
+  pub number : ℕ
+  pub count : ℕ
+
 -- the number, and how many differences there are
 abbrev pub compared : ℕ → ℕ → Compared
 compared number count = record { number = number; count = count }
+
+-- the Rust answer as that
+abbrev pub compared_of : Result ℕ Unlisted → Compared
+compared_of (Ok count) = compared 0 count
+compared_of (Err (Refused refusal)) = compared (code refusal) 0
+compared_of (Err (TooMany count)) = compared 18 count
 
 -- The promise: what is answered, and the list left. "new 18 exactly when the lent list has fewer places than differences"; "The number of differences is
 -- in the result, with 18 too; list places past it stay unchanged."

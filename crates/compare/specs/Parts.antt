@@ -1,6 +1,6 @@
 -- Two trays in parts of sixteen bytes, eight words.
 -- Assumes nothing.
-use Rattle.std.specs.Prelude.{ℕ, ◌+◌, ◌*◌, ◌≤◌, ◌≡◌, Bool, not, cond, List, [], ◌∷◌, ◌++◌, map, ltb, length, take, drop}
+use Rattle.std.specs.Prelude.{ℕ, ◌+◌, ◌*◌, ◌<◌, ◌≤◌, ◌≡◌, Bool, not, cond, Option, Some, None, List, [], ◌∷◌, ◌++◌, map, ltb, length, take, drop}
 use Rattle.lists.specs.Chosen.{chosen}
 use Rattle.lists.specs.From.{from}
 use Rattle.lists.specs.Patched.{patched}
@@ -27,6 +27,11 @@ in_parts first second (p ∷ ps) = in_part first second p ++ in_parts first seco
 -- so many, where they are more than there are places for; else 0
 unfoldable pub beyond : ℕ → ℕ → ℕ
 beyond places many = cond (ltb places many) many 0
+
+-- that number is told only where they are more
+abbrev pub Beyond : ℕ → ℕ → Option ℕ → Type 0
+Beyond places many (Some words) = (words ≡ beyond places many) × (places < many)
+Beyond places many None = beyond places many ≡ 0
 
 -- so many parts are there, in both
 pub record HaveParts (first second : List ℕ) (m : ℕ) : Type 0 where

@@ -7,33 +7,28 @@ ghost use Rattle.compare.specs.Parts.{part_differs, in_part, in_parts, HaveParts
 use block::bytes;
 use block::words::same_word;
 
+// The trays stay two slices: as fields of a struct, each clause would name their bytes by a longer path than the `requires` that it saves.
 // 1 where part p has other bytes, else 0. Most parts are the same, so a part is compared at once, and only one that differs word by word.
 fn part_differs(first: &[u8], second: &[u8], p: usize) -> usize
     requires { HaveParts first.now second.now (p + 1) }
     ensures { result ≡ bit (part_differs first.now second.now p) }
 {
     let at = 16 * p;
-    if bytes::same(&first[at..at + 16], &second[at..at + 16]) {
-        0
-    } else {
-        1
-    }
+    usize::from(!bytes::same(&first[at..at + 16], &second[at..at + 16]))
 }
 
-// How many words of part p differ.
+// How many words of part p differ. The count is as wide as a word, so that the eight words can be counted together.
 fn words_in(first: &[u8], second: &[u8], p: usize) -> usize
     requires { HaveParts first.now second.now (p + 1) }
     ensures { result ≡ length (in_part first.now second.now p) }
 {
     let mut count: u16 = 0;
-    let mut j = 0;
-    while j < 8 {
+    for j in 0..8 {
         if !same_word(first, second, 8 * p + j) {
             count += 1;
         }
-        j += 1;
     }
-    count as usize
+    usize::from(count)
 }
 
 // How many words of some parts differ.
@@ -44,10 +39,8 @@ pub fn count(first: &[u8], second: &[u8], m: usize, parts: &[u16]) -> usize
     ensures { result ≡ length (in_parts first.now second.now parts.now) }
 {
     let mut words = 0;
-    let mut q = 0;
-    while q < parts.len() {
-        words += words_in(first, second, parts[q] as usize);
-        q += 1;
+    for part in parts {
+        words += words_in(first, second, usize::from(*part));
     }
     words
 }
@@ -60,11 +53,9 @@ pub fn look(first: &[u8], second: &[u8], m: usize, parts: &mut [u16]) -> usize
     ensures { Looked first.now second.now m parts.old parts.new result }
 {
     let mut found = 0;
-    let mut p = 0;
-    while p < m {
+    for p in 0..m {
         parts[found] = p as u16;
         found += part_differs(first, second, p);
-        p += 1;
     }
     found
 }

@@ -7,6 +7,7 @@ ghost use Rattle.compare.specs.Parts.{in_part, in_parts, HaveParts, Laid};
 use block::words::{same_word, word_at};
 
 // The place of word i: its slot, its block and its word, and the two words there.
+// A row and not a struct: the C interface lends the list as rows of five numbers (cs_difference).
 fn place(first: &[u8], second: &[u8], i: usize) -> [u16; 5]
     requires { (i < 16384) × (2 * i + 1 < length first.now) × (2 * i + 1 < length second.now) }
     ensures { result ≡ difference first.now second.now i }
@@ -26,15 +27,12 @@ fn put_part(first: &[u8], second: &[u8], p: usize, list: &mut [[u16; 5]], at: us
     ensures { Laid (difference first.now second.now) list.old at (in_part first.now second.now p) list.new result }
 {
     let mut next = at;
-    let mut j = 0;
-    while j < 8 {
+    for j in 0..8 {
         let i = 8 * p + j;
-        j += 1;
         if same_word(first, second, i) {
             continue;
         }
-        let row = place(first, second, i);
-        list[next] = row;
+        list[next] = place(first, second, i);
         next += 1;
     }
     next
@@ -48,10 +46,8 @@ pub fn put(first: &[u8], second: &[u8], m: usize, parts: &[u16], list: &mut [[u1
     ensures { Laid (difference first.now second.now) list.old 0 (in_parts first.now second.now parts.now) list.new result }
 {
     let mut next = 0;
-    let mut q = 0;
-    while q < parts.len() {
-        next = put_part(first, second, parts[q] as usize, list, next);
-        q += 1;
+    for part in parts {
+        next = put_part(first, second, usize::from(*part), list, next);
     }
     next
 }

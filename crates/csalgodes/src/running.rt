@@ -1,11 +1,10 @@
 // Which of the commands runs, and how the program ends.
-use block::bytes::same;
-use command_line::read;
+use command_line::{Asked, read};
 use files::load::front;
-use helping::{help_word, say_help, say_usage, say_version, wrong_word};
-use options::form;
-use options::form::command_of;
+use helping::{help_word, no_such_command, say_help, say_usage, say_version, wrong_word};
+use options::command::Command;
 use options::given::Given;
+use saying::status::Status;
 use saying::trouble;
 use std::os::fd::{AsRawFd, IntoRawFd};
 use system::named::opened;
@@ -26,87 +25,61 @@ fn stand(rt: &HostRuntime) {
     }
 }
 
-// Of the commands that move a key.
-fn run_move(rt: &HostRuntime, command: usize, g: Given) -> i32 {
-    if command == form::MOVE_CUT {
-        return moves::cutting::run(rt, g);
-    }
-    if command == form::MOVE_WEIGH {
-        return moves::gathering::run(rt, g);
-    }
-    checks::run(rt, g)
-}
-
-fn run_given(rt: &HostRuntime, command: usize, g: Given) -> i32 {
-    if command >= form::MOVE_CUT {
-        return run_move(rt, command, g);
-    }
-    if command == form::CUT {
-        return commands::cutting::run(rt, g);
-    }
-    if command == form::SHOW {
-        return commands::reading::run(rt, g);
-    }
-    if command == form::STORE {
-        return commands::storing::run(rt, g);
-    }
-    if command == form::FETCH {
-        return commands::fetching::run(rt, g);
-    }
-    if command == form::JOIN {
-        return joins::joining::run(rt, g);
-    }
-    trays::comparing::run(rt, g)
-}
-
-fn run_command(rt: &HostRuntime, command: usize) -> i32 {
-    let g = read(rt, command);
-    if g.help {
-        return say_help(rt, command);
-    }
-    if g.right {
-        run_given(rt, command, g)
-    } else {
-        101
+fn run_given(rt: &HostRuntime, command: Command, g: &Given) -> Result<(), Status> {
+    match command {
+        Command::Cut => commands::cutting::run(rt, g),
+        Command::Show => commands::reading::run(rt, g),
+        Command::Store => commands::storing::run(rt, g),
+        Command::Fetch => commands::fetching::run(rt, g),
+        Command::Join => joins::joining::run(rt, g),
+        Command::Compare => trays::comparing::run(rt, g),
+        Command::MoveCut => moves::cutting::run(rt, g),
+        Command::MoveWeigh => moves::gathering::run(rt, g),
+        Command::MoveCheck => checks::run(rt, g),
     }
 }
 
-fn run_word(rt: &HostRuntime, word: &[u8]) -> i32 {
-    if same(word, b"--version") {
-        return say_version(rt);
+fn run_command(rt: &HostRuntime, command: Command) -> Result<(), Status> {
+    match read(rt, command)? {
+        Asked::Help => say_help(rt, command),
+        Asked::Run(g) => run_given(rt, command, &g),
     }
-    if same(word, b"help") || same(word, b"--help") {
-        return help_word(rt);
-    }
-    let command = command_of(word);
-    if command == form::COMMANDS {
-        return wrong_word(rt, word, b"there is no such command");
-    }
-    run_command(rt, command)
 }
 
-fn run(rt: &HostRuntime) -> i32 {
+fn run_word(rt: &HostRuntime, word: &[u8]) -> Result<(), Status> {
+    match word {
+        b"--version" => say_version(rt),
+        b"help" | b"--help" => help_word(rt),
+        _ => match Command::of(word) {
+            Some(command) => run_command(rt, command),
+            None => Err(no_such_command(rt, word)),
+        },
+    }
+}
+
+fn run(rt: &HostRuntime) -> Result<(), Status> {
     if word_count(rt) < 2 {
-        return say_usage(rt);
+        return Err(say_usage(rt));
     }
-    let mut word = io::buffer();
-    let held = word_at(rt, 1, &mut word);
-    let count = held.count;
-    if !held.whole {
-        let start = front(64, &word);
-        return wrong_word(rt, &word[..start], b"begins a word of more than 4096 bytes");
+    let mut room = io::buffer();
+    match word_at(rt, 1, &mut room) {
+        Some(word) => run_word(rt, word),
+        None => Err(wrong_word(
+            rt,
+            front(64, &room),
+            "begins a word of more than 4096 bytes",
+        )),
     }
-    run_word(rt, &word[..count])
 }
 
 // The whole program. A file system may say only at the end that it had no room for what was said.
-pub fn csalgodes_run(rt: &HostRuntime) -> i32 {
+pub fn csalgodes_run(rt: &HostRuntime) -> Result<(), Status> {
     stand(rt);
-    let status = run(rt);
-    if let Err(error) = settled(rt) {
-        if status != 101 {
-            return trouble(rt, b"standard output", b"cannot be written", error);
+    let outcome = run(rt);
+    match settled(rt) {
+        Err(error) if outcome != Err(Status::Misused) => {
+            Err(trouble(rt, b"standard output", b"cannot be written", error))
         }
+        _ => outcome,
     }
-    status
 }

@@ -13,8 +13,7 @@ use Rattle.header.specs.OrderLaws.{KeeperFacts, facts_lawful_keeper}
 use Rattle.header.specs.Head.{lawful_head}
 use Rattle.header.specs.Terms.{lawful_stamp}
 use Rattle.header.specs.Told.{lawful_told}
-use Rattle.format.specs.declared.reader.Reading.TheVariants.{Good}
-use Rattle.format.specs.Reading.{read_of, shares_of}
+use Rattle.format.specs.Reading.{Good, read_of, shares_of}
 use Rattle.format.specs.WrittenReads.{Reads, written_reads}
 use Rattle.tray.specs.Tray.{head_for, slot_of}
 use Rattle.shares.specs.OneWords.{OneWords}

@@ -1,70 +1,59 @@
 // The cut of a secret.
-ghost use Rattle.std.specs.Prelude.{◌≡◌, ◌+◌, ◌*◌, length};
+ghost use Rattle.std.specs.Prelude.{◌≡◌, length};
+ghost use Rattle.refusals.specs.Numbers.{code_of};
 ghost use Rattle.field.specs.Modulo.{mod257};
 ghost use Rattle.cut.specs.Cut.{cut_number, cut_tray, CutDone};
 
 use crate::letters::write_letters;
-use crate::refusal::refusal;
+use crate::refusal::judge;
+use header::terms::Terms;
 use header::told::Told;
+use refusals::Refusal;
 use shares::columns::lay_out;
-
-fn wide(byte: u8) -> u16
-    ensures { result ≡ byte }
-{
-    byte as u16
-}
 
 // The constants: the secret's bytes, as words.
 fn put_bytes(secret: &[u8], row: &mut [u16])
     requires { length row.old ≡ length secret.now }
     ensures { row.new ≡ secret.now }
 {
-    let mut i = 0;
-    while i < secret.len() {
-        row[i] = wide(secret[i]);
-        i += 1;
+    for (i, byte) in secret.iter().enumerate() {
+        row[i] = u16::from(*byte);
     }
 }
 
-// Fills a tray with a letter for each keeper. The columns and the row are room to work in.
-fn fill(
+// Fills a tray with a letter for each keeper, of what is not refused. 7616 words are the longest secret's eight columns.
+fn fill(terms: Terms, secret: &[u8], random: &[u16], tray: &mut [u8])
+    requires length { terms.length ≡ length secret.now }
+    requires right { cut_number terms.told terms.stamp secret.now random.now tray.old ≡ 0 }
+    ensures { tray.new ≡ cut_tray mod257 terms.told terms.stamp secret.now random.now }
+{
+    let size = terms.length * (terms.told.order.t + 1);
+    let mut columns_room = [0u16; 7616];
+    let mut row_room = [0u16; 952];
+    let columns = &mut columns_room[..size];
+    let row = &mut row_room[..terms.length];
+    put_bytes(secret, row);
+    lay_out(row, random, terms.told.order.t, columns);
+    write_letters(terms, columns, row, tray);
+}
+
+// Cuts a secret into letters. A refused cut leaves the tray as it was.
+#[tactic(auto, using(shares::specs::Fills::fills, shares::specs::Fills::refuses, refusals::specs::Numbers::code_some))]
+pub fn cut(
     told: Told,
     stamp: u32,
     secret: &[u8],
     random: &[u16],
-    columns: &mut [u16],
-    row: &mut [u16],
     tray: &mut [u8],
-)
-    requires right { cut_number told stamp secret.now random.now tray.old ≡ 0 }
-    requires columns_room { length columns.old ≡ length secret.now * (told.order.t + 1) }
-    requires row_room { length row.old ≡ length secret.now }
-    ensures { tray.new ≡ cut_tray mod257 told stamp secret.now random.now }
+) -> Result<(), Refusal>
+    ensures { CutDone mod257 told stamp secret.now random.now tray.old (code_of result) tray.new }
 {
-    put_bytes(secret, row);
-    lay_out(row, random, told.order.t, columns);
-    write_letters(told, stamp, columns, row, tray);
-}
-
-// Cuts a secret into letters. A refused cut leaves the tray as it was. 7616 words are the longest secret's eight columns.
-pub fn cut(told: Told, stamp: u32, secret: &[u8], random: &[u16], tray: &mut [u8]) -> u32
-    ensures { CutDone mod257 told stamp secret.now random.now tray.old result tray.new }
-{
-    let number = refusal(told, stamp, secret, random, tray);
-    if number == 0 {
-        let l = secret.len();
-        let size = l * (told.order.t + 1);
-        let mut columns = [0u16; 7616];
-        let mut row = [0u16; 952];
-        fill(
-            told,
-            stamp,
-            secret,
-            random,
-            &mut columns[..size],
-            &mut row[..l],
-            tray,
-        );
-    }
-    number
+    let terms = Terms {
+        told,
+        stamp,
+        length: secret.len(),
+    };
+    judge(terms, secret, random, tray)?;
+    fill(terms, secret, random, tray);
+    Ok(())
 }

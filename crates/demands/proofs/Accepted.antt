@@ -9,7 +9,7 @@ use Rattle.header.specs.Passing.{passing}
 use Rattle.tray.specs.Tray.{usable, word_of}
 use Rattle.agree.specs.Agreement.{Reaches, constants}
 use Rattle.cut.specs.LetterField.{LetterField, keepers_apart}
-use Rattle.join.specs.declared.Joined.{Joined}
+use Rattle.join.specs.Join.{Joined}
 use Rattle.join.specs.Join.{join_refusal, JoinDone, refused, judged, few, apart, wide, joined}
 use Rattle.join.specs.OutcomeLaws.{reaches_outcome}
 use Rattle.join.specs.RefusalLaws.{refusal_most}

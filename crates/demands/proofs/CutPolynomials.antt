@@ -12,10 +12,9 @@ use Rattle.algebra.specs.Poly.{eval, Degree, degree_cons}
 use Rattle.header.specs.declared.told.Told.{Told}
 use Rattle.header.specs.declared.head.Head.{Head}
 use Rattle.header.specs.OrderLaws.{KeeperFacts}
-use Rattle.format.specs.declared.reader.Reading.TheVariants.{Good}
+use Rattle.format.specs.Reading.{Good, read_of, shares_of}
 use Rattle.format.specs.GoodWritten.{good_written}
 use Rattle.format.specs.OneSlot.{same_slot}
-use Rattle.format.specs.Reading.{read_of, shares_of}
 use Rattle.tray.specs.Tray.{head_for, slot_of, usable, word_of}
 use Rattle.agree.specs.AgreementLaws.{matches-at, matches_holds}
 use Rattle.tray.specs.SlotLaws.{below_slot}

@@ -13,7 +13,7 @@ use Rattle.block.specs.Words.{bytes_of, words_of}
 use Rattle.block.specs.WordLaws.{bytes_words}
 use Rattle.block.specs.WordParts.{length-words}
 use Rattle.header.specs.declared.order.Order.{Order}
-use Rattle.compare.specs.declared.Compared.{Compared}
+use Rattle.compare.specs.Compare.{Compared}
 use Rattle.compare.specs.Compare.{differs, difference, differences, CompareDone, refused, short, told}
 use Rattle.compare.specs.CompareLaws.{CompareFacts}
 use Rattle.compare.proofs.CompareLaws.{compare_facts, differs-words}

@@ -25,7 +25,7 @@ use Rattle.trials.specs.Within.{within}
 use Rattle.cut.specs.Cut.{cut_tray}
 use Rattle.cut.specs.LetterField.{keepers_apart, mod257-letters}
 use Rattle.cut.specs.OneCut.{OneCut}
-use Rattle.join.specs.declared.Joined.{Joined}
+use Rattle.join.specs.Join.{Joined}
 use Rattle.join.specs.HuntLaws.{hunt_many, hunted_most}
 use Rattle.join.specs.Join.{hunt, hunted, join_refusal, JoinDone, refused, judged, few, apart, wide, joined}
 use Rattle.join.specs.Lowest.{hunt_lowest}

@@ -18,7 +18,7 @@ use Rattle.tray.proofs.UsableLaws.{usable_reads, reads_usable}
 use Rattle.cut.specs.Cut.{cut_tray}
 use Rattle.cut.specs.LetterField.{mod257-letters}
 use Rattle.cut.specs.OneCut.{OneCut, read_cut}
-use Rattle.join.specs.declared.Joined.{Joined}
+use Rattle.join.specs.Join.{Joined}
 use Rattle.join.specs.Join.{JoinDone}
 use Rattle.demands.specs.Altered.{unaltered, unaltered_many, altered, AtMostAltered}
 use Rattle.demands.specs.Recovery.{GivesBack}

@@ -6,10 +6,10 @@ use Rattle.std.proofs.lemmas.List.{length-replicate}
 use Rattle.algebra.specs.Field.{Ops}
 use Rattle.header.specs.declared.told.Told.{Told}
 use Rattle.cut.specs.LetterField.{LetterField, keepers_apart}
-use Rattle.join.specs.declared.Joined.{Joined}
+use Rattle.join.specs.Join.{Joined}
 use Rattle.join.specs.DoneLaws.{done_any_room}
 use Rattle.join.specs.Join.{join_refusal, JoinDone}
-use Rattle.pick.specs.declared.Picked.{Picked}
+use Rattle.pick.specs.Pick.{Picked}
 use Rattle.pick.specs.Pick.{JoinGives, PickDone}
 use Rattle.pick.specs.Pick as pick
 use Rattle.demands.proofs.JoinAnswers.{not_refused_order}

@@ -11,7 +11,7 @@ use Rattle.cut.specs.Cut.{cut_tray}
 use Rattle.cut.specs.LetterField.{LetterField, mod257-letters}
 use Rattle.cut.specs.OneCut.{OneCut}
 use Rattle.join.specs.Join.{judged, joined}
-use Rattle.pick.specs.declared.Picked.{Picked}
+use Rattle.pick.specs.Pick.{Picked}
 use Rattle.pick.specs.Pick.{Joining, NotBefore, picked, PickDone, chosen}
 use Rattle.pick.specs.RefusalLaws.{facts_picked}
 use Rattle.demands.specs.Altered.{AtMostAltered, EnoughLeft}

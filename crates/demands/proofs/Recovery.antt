@@ -22,7 +22,7 @@ use Rattle.trials.specs.Within.{within}
 use Rattle.cut.specs.Cut.{cut_tray}
 use Rattle.cut.specs.LetterField.{LetterField, keepers_apart, mod257-letters}
 use Rattle.cut.specs.OneCut.{OneCut}
-use Rattle.join.specs.declared.Joined.{Joined}
+use Rattle.join.specs.Join.{Joined}
 use Rattle.join.specs.Join.{answer, hunt, JoinDone}
 use Rattle.join.specs.Lowest.{hunted-within}
 use Rattle.demands.specs.Accepted.{SecretAgreed, Tells, Given}

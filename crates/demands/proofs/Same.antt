@@ -8,28 +8,26 @@ use Rattle.algebra.specs.Poly.{eval}
 use Rattle.header.specs.declared.order.Order.{Order}
 use Rattle.header.specs.declared.told.Told.{Told}
 use Rattle.header.specs.OrderLaws.{facts_lawful_order}
-use Rattle.format.specs.declared.reader.Reading.{Reading}
-use Rattle.format.specs.Reading.{read_of}
+use Rattle.format.specs.Reading.{Reading, read_of}
 use Rattle.shares.specs.Fills.{fills_same}
 use Rattle.shares.specs.Words.{WordsDone}
 use Rattle.cut.specs.Cut.{CutDone}
 use Rattle.cut.specs.LetterField.{LetterField, keepers_apart, mod257-letters}
-use Rattle.join.specs.declared.Joined.{Joined}
+use Rattle.join.specs.Join.{Joined}
 use Rattle.join.specs.Join.{JoinDone, refused, judged}
 use Rattle.join.specs.OutcomeLaws.{outcome_same}
-use Rattle.desk.specs.declared.Stored.{Stored}
+use Rattle.desk.specs.Desk.{Stored}
 use Rattle.desk.specs.Desk.{StoreDone, fetch_number, fetched}
-use Rattle.pick.specs.declared.Picked.{Picked}
+use Rattle.pick.specs.Pick.{Picked}
 use Rattle.pick.specs.Pick.{NotBefore, First, picked, PickDone}
 use Rattle.pick.specs.Pick as pick
 use Rattle.pick.specs.JoinGivesLaws.{gives_same}
 use Rattle.pick.specs.RefusalLaws.{pick_facts}
-use Rattle.compare.specs.declared.Compared.{Compared}
+use Rattle.compare.specs.Compare.{Compared}
 use Rattle.compare.specs.Compare.{CompareDone}
 use Rattle.compare.specs.Compare as compare
 use Rattle.lines.specs.Lines.{answer_line}
-use Rattle.report_text.specs.declared.answer.Answered.{Answered}
-use Rattle.report_text.specs.Report.{has_lines, ReportOf, short, unpicked, joined, Reported}
+use Rattle.report_text.specs.Report.{Answered, has_lines, ReportOf, short, unpicked, joined, Reported}
 use Rattle.demands.proofs.JoinAnswers.{not_refused_order}
 
 -- reading a slot

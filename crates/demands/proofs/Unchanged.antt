@@ -9,15 +9,14 @@ use Rattle.header.specs.declared.told.Told.{Told}
 use Rattle.shares.specs.Fills.{unchanged}
 use Rattle.shares.specs.Words.{WordsDone}
 use Rattle.cut.specs.Cut.{CutDone}
-use Rattle.join.specs.declared.Joined.{Joined}
+use Rattle.join.specs.Join.{Joined}
 use Rattle.join.specs.Join.{Outcome, few, apart, wide, joined, JoinDone, refused, judged}
-use Rattle.desk.specs.declared.Stored.{Stored}
+use Rattle.desk.specs.Desk.{Stored}
 use Rattle.desk.specs.Desk.{store_leaves, StoreDone}
-use Rattle.compare.specs.declared.Compared.{Compared}
+use Rattle.compare.specs.Compare.{Compared}
 use Rattle.compare.specs.Compare.{CompareDone}
 use Rattle.compare.specs.Compare as compare
-use Rattle.report_text.specs.declared.answer.Answered.{Answered}
-use Rattle.report_text.specs.Report.{Reported}
+use Rattle.report_text.specs.Report.{Answered, Reported}
 
 -- the cut's tray
 pub cut_unchanged : (O : Ops) (told : Told) (stamp : ℕ) (secret random tray : List ℕ) {number : ℕ} {left : List ℕ}

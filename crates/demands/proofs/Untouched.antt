@@ -23,7 +23,7 @@ use Rattle.shares.specs.ShareWords.{below_share_words}
 use Rattle.cut.specs.Cut.{cut_tray}
 use Rattle.cut.specs.LetterField.{LetterField}
 use Rattle.cut.specs.OneCut.{OneCut, length-cut_tray, below_cut_tray, read_cut, shares_cut}
-use Rattle.join.specs.declared.Joined.{Joined}
+use Rattle.join.specs.Join.{Joined}
 use Rattle.join.specs.Join.{answer, hunt, JoinDone}
 use Rattle.demands.specs.Altered.{unaltered, AtMostAltered}
 use Rattle.demands.proofs.Altered.{count-usable}

@@ -29,7 +29,7 @@ use Rattle.trials.specs.Sets.{sets}
 use Rattle.trials.specs.Trials.{trials}
 use Rattle.shares.specs.Shares.{share_words}
 use Rattle.cut.specs.LetterField.{mod257-letters}
-use Rattle.join.specs.declared.Joined.{Joined}
+use Rattle.join.specs.Join.{Joined}
 use Rattle.join.specs.Join.{join_refusal, Outcome, few, apart, wide, joined, judged}
 use Rattle.join.specs.OutcomeLaws.{outcome_scan}
 use Rattle.demands.specs.HeldTray.{Held}

@@ -7,7 +7,7 @@ use Rattle.block.specs.Check.{all_at_most}
 use Rattle.header.specs.declared.told.Told.{Told}
 use Rattle.tray.specs.Tray.{usable, usable_many, word_of}
 use Rattle.agree.specs.Agreement.{agreeing, needed, Reaches, constants}
-use Rattle.join.specs.declared.Joined.{Joined}
+use Rattle.join.specs.Join.{Joined}
 use Rattle.join.specs.Join.{answer, hunted}
 
 -- polynomials that reach need among the usable letters, and whose constants are bytes

@@ -8,8 +8,7 @@ use Rattle.lists.specs.SameBytes.{same_bytes}
 use Rattle.header.specs.declared.head.Head.{Head}
 use Rattle.header.specs.declared.told.Told.{Told}
 use Rattle.header.specs.Order.{lawful_keeper}
-use Rattle.format.specs.declared.reader.Reading.TheVariants.{Good}
-use Rattle.format.specs.Reading.{read_of}
+use Rattle.format.specs.Reading.{Good, read_of}
 use Rattle.tray.specs.Tray.{slot_of}
 
 -- a slot that is no good letter of a key: another key's, or not good

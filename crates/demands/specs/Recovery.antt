@@ -5,7 +5,7 @@ use Rattle.lists.specs.KeeperSet.{keeper_set}
 use Rattle.header.specs.declared.told.Told.{Told}
 use Rattle.tray.specs.Tray.{usable, usable_many}
 use Rattle.agree.specs.Agreement.{needed}
-use Rattle.join.specs.declared.Joined.{Joined}
+use Rattle.join.specs.Join.{Joined}
 use Rattle.join.specs.Join.{answer}
 use Rattle.demands.specs.Altered.{unaltered}
 

@@ -7,7 +7,7 @@ use Rattle.block.specs.Check.{plain_check, weighted_check}
 use Rattle.header.specs.declared.told.Told.{Told}
 use Rattle.header.specs.Order.{lawful_order}
 use Rattle.shares.specs.Shares.{share_words}
-use Rattle.join.specs.declared.Joined.{Joined}
+use Rattle.join.specs.Join.{Joined}
 use Rattle.join.specs.Join.{answer, JoinDone}
 use Rattle.demands.specs.HeldTray.{held_tray}
 

@@ -1,16 +1,15 @@
 -- The keeper's desk: one held slot, and what storing a letter and fetching do.
 -- Assumes nothing.
-use Rattle.std.specs.Prelude.{ℕ, ◌≡◌, Bool, cond, ◌&&◌, List, [], eqb, ltb, length}
+use Rattle.std.specs.Prelude.{ℕ, ◌≡◌, Bool, cond, ◌&&◌, List, [], Option, Some, None, Result, Ok, Err, eqb, ltb, length}
 use Rattle.lists.specs.SameBytes.{same_bytes}
+use Rattle.refusals.specs.Numbers.{code}
 use Rattle.header.specs.declared.told.Told.{Told}
 use Rattle.header.specs.declared.head.Head.{Head}
 use Rattle.header.specs.FirstOf.{first_of}
 use Rattle.header.specs.Order.{lawful_keeper}
 use Rattle.header.specs.Told.{lawful_told, same_told}
-use Rattle.format.specs.declared.reader.Reading.{Reading}
-use Rattle.format.specs.declared.reader.Reading.TheVariants.{Good, Bad}
-use Rattle.format.specs.Reading.{read_of, number_of, place_of, read_head}
-use Rattle.desk.specs.declared.Stored.{Stored}
+use Rattle.format.specs.declared.reader.Fault.{Fault}
+use Rattle.format.specs.Reading.{Reading, Good, Bad, read_of, number_of, place_of, read_head}
 
 -- a head of this desk's order, key and keeper
 abbrev pub of_desk : Told → ℕ → Head → Bool
@@ -24,6 +23,11 @@ stamp_in told keeper (Bad number place) = 0
 -- "A held slot that isn't good for this desk counts as empty."
 unfoldable pub stamp_held : Told → ℕ → List ℕ → ℕ
 stamp_held told keeper slot = stamp_in told keeper (read_of slot)
+
+-- no letter has stamp 0
+abbrev pub stamp_or_none : Option ℕ → ℕ
+stamp_or_none (Some stamp) = stamp
+stamp_or_none None = 0
 
 -- 1: "order not lawful, or the desk's keeper number outside 1..n"; "1 also for a key number above 255"
 abbrev pub desk_right : Told → ℕ → Bool
@@ -57,6 +61,16 @@ store_place told keeper held letter = cond (desk_right told keeper && (eqb (leng
 -- the slot held afterwards
 unfoldable pub store_leaves : Told → ℕ → List ℕ → List ℕ → List ℕ
 store_leaves told keeper held letter = cond (eqb (store_number told keeper held letter) 0) letter held
+
+-- what storing answers, in the page's numbers: one, and the place of a fault in the letter
+pub record Stored : Type 0 where
+  pub number : ℕ
+  pub place : ℕ
+
+-- 0 and 0 where nothing is refused
+abbrev pub stored_of : Result Unit Fault → Stored
+stored_of (Ok done) = record { number = 0; place = 0 }
+stored_of (Err fault) = record { number = code fault.refusal; place = fault.place }
 
 -- what storing answers and leaves: its number, the place, and the slot, which only 0 changes
 pub record StoreDone (told : Told) (keeper : ℕ) (held letter : List ℕ) (result : Stored) (left : List ℕ) : Type 0 where

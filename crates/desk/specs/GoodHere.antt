@@ -1,6 +1,6 @@
 -- What the stamp of a slot says: it is not 0 exactly where the slot is a good letter for this desk, and then it is the letter's.
 -- Assumes nothing.
-use Rattle.std.specs.Prelude.{ℕ, ◌<◌, ◌≡◌, Bool, List}
+use Rattle.std.specs.Prelude.{ℕ, ◌<◌, ◌≤◌, ◌≡◌, Bool, List}
 use Rattle.std.proofs.Math.Path.{refl}
 use Rattle.std.proofs.Math.Bool.{true, false, cond}
 use Rattle.std.proofs.Common.{arith}
@@ -10,9 +10,7 @@ use Rattle.header.specs.declared.head.Head.{Head}
 use Rattle.header.specs.HeadLaws.{lawful_head_facts}
 use Rattle.header.specs.Passing.{passed}
 use Rattle.header.specs.ToldLaws.{same_told_equal, equal_same_told}
-use Rattle.format.specs.declared.reader.Reading.{Reading}
-use Rattle.format.specs.declared.reader.Reading.TheVariants.{Good, Bad}
-use Rattle.format.specs.Reading.{read_of}
+use Rattle.format.specs.Reading.{Reading, Good, Bad, read_of}
 use Rattle.format.specs.ReadingBounds.{good_lawful}
 use Rattle.desk.specs.Desk.{of_desk, stamp_in, stamp_held}
 
@@ -22,6 +20,10 @@ pub record GoodHere (told : Told) (keeper : ℕ) (slot : List ℕ) : Type 0 wher
   pub reads : read_of slot ≡ Good head
   pub of_told : head.told ≡ told
   pub of_keeper : head.keeper ≡ keeper
+
+-- no letter has stamp 0
+pub stamp_read : (slot : List ℕ) (h : Head) → read_of slot ≡ Good h → 1 ≤ h.stamp
+stamp_read slot h reads = omega (arith, lawful_head_facts h (good_lawful slot h reads))
 
 module _ (told : Told) (keeper : ℕ) (slot : List ℕ) where
   pub good_stamp : (good : GoodHere told keeper slot) → (stamp_held told keeper slot ≡ good.head.stamp) × (0 < stamp_held told keeper slot)

@@ -12,9 +12,7 @@ use Rattle.header.specs.declared.told.Told.{Told}
 use Rattle.header.specs.FirstOf.{first_wrong}
 use Rattle.header.specs.Head.{head_of}
 use Rattle.header.specs.Passing.{passed}
-use Rattle.format.specs.declared.reader.Reading.{Reading}
-use Rattle.format.specs.declared.reader.Reading.TheVariants.{Good, Bad}
-use Rattle.format.specs.Reading.{block_words, judged_from, read_as, read_of, no_head}
+use Rattle.format.specs.Reading.{Reading, Good, Bad, block_words, judged_from, read_as, read_of, no_head}
 use Rattle.format.specs.ReadingBounds.{FaultFacts, FaultsIn, fault_facts}
 use Rattle.desk.specs.Desk.{of_desk, stamp_in, stamp_held, desk_right, against, offered, store_number, store_leaves}
 

@@ -2,35 +2,44 @@
 #![tactic(auto)]
 
 ghost use Rattle.std.specs.Prelude.{◌≡◌, cond, eqb, pos};
-ghost use Rattle.ending.specs.Status.{status_of};
+ghost use Rattle.saying.specs.Status.{code};
+ghost use Rattle.ending.specs.Status.{status_of, told};
 
 use saying::numbers::explain;
+use saying::status::Status;
 
 // A number as a status. The library gives none above 99.
-fn as_status(number: u32) -> i32
-    ensures { result ≡ status_of number }
+fn as_status(number: u32) -> u8
+    ensures { pos result ≡ status_of number }
 {
-    if number < 100 { number as i32 } else { 100 }
+    if number < 100 { number as u8 } else { 100 }
 }
 
 // Says what a number means that a call gave, with the place of a fault in a letter, and ends with it.
-pub fn answered(rt: &HostRuntime, number: u32, place: u32) -> i32
-    ensures { result ≡ status_of number }
+pub fn answered(rt: &HostRuntime, number: u32, place: usize) -> Status
+    ensures { pos (code result) ≡ status_of number }
 {
     explain(rt, number, place);
-    as_status(number)
+    Status::Answered(as_status(number))
 }
 
-// 0, or 100 where something was not written; what that was is said by then.
-pub fn written(done: bool) -> i32
-    ensures { result ≡ pos (cond done 0 100) }
+// After a comparison: well where no word differs, else 99, which is above all numbers of the library's.
+pub fn status_for(count: u32) -> Result<(), Status>
+    ensures { pos (told result) ≡ pos (cond (eqb count 0) 0 99) }
 {
-    if done { 0 } else { 100 }
+    if count == 0 {
+        Ok(())
+    } else {
+        Err(Status::Differs)
+    }
 }
 
-// After a comparison: 0 where no word differs, else 99, which is above all numbers of the library's.
-pub fn status_for(count: u32) -> i32
-    ensures { result ≡ pos (cond (eqb count 0) 0 99) }
+// What the system is told of how a command ended: 0 where all went well.
+pub fn written(outcome: Result<(), Status>) -> u8
+    ensures { result ≡ told outcome }
 {
-    if count == 0 { 0 } else { 99 }
+    match outcome {
+        Ok(()) => 0,
+        Err(status) => status.code(),
+    }
 }

@@ -1,6 +1,6 @@
 -- What cs_compare answers: the comparison's own numbers, in C's struct.
 -- Assumes nothing.
-use Rattle.compare.specs.declared.Compared.{Compared}
+use Rattle.compare.specs.Compare.{Compared}
 use Rattle.compare.specs.Compare.{compared}
 use Rattle.exports.specs.declared.comparing.CompareResult.{CompareResult}
 

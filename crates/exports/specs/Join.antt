@@ -1,6 +1,6 @@
 -- What cs_join answers: the join's own numbers, in C's struct.
 -- Assumes nothing.
-use Rattle.join.specs.declared.Joined.{Joined}
+use Rattle.join.specs.Join.{Joined}
 use Rattle.exports.specs.declared.joining.JoinResult.{JoinResult}
 
 -- C's struct, as the join's

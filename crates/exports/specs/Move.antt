@@ -1,9 +1,9 @@
 -- What a move is told, as callers tell it, and what its two calls answer, in C's structs.
 -- Assumes nothing.
 use Rattle.std.specs.Prelude.{ℕ}
-use Rattle.moving.specs.declared.cutting.Cutting.{Cutting}
+use Rattle.moving.specs.Cutting.{Cutting}
 use Rattle.moving.specs.declared.terms.Move.{Move}
-use Rattle.sub_letters.specs.declared.judging.Weighing.{Weighing}
+use Rattle.sub_letters.specs.Judging.{Weighing}
 use Rattle.exports.specs.declared.hosts.MoveCutResult.{MoveCutResult}
 use Rattle.exports.specs.declared.hosts.MoveWeighResult.{MoveWeighResult}
 use Rattle.exports.specs.Told.{order_told, as_told}

@@ -7,7 +7,7 @@ use Rattle.format.specs.ReadingBounds.{small_place, small_place_as}
 use Rattle.tray.specs.Tray.{slot_of}
 use Rattle.moving.specs.declared.terms.Move.{Move}
 use Rattle.moving.specs.Cutting.{cut_refusal, move_cut_place}
-use Rattle.sub_letters.specs.declared.judging.Weighing.{Weighing}
+use Rattle.sub_letters.specs.Judging.{Weighing}
 use Rattle.sub_letters.specs.Subs.{froms_right}
 use Rattle.sub_letters.specs.Judging.{only, or_next, first_sub, fault_at, other_at, subs_answer, weigh_refusal, weigh_answer}
 use Rattle.sub_letters.specs.JudgingLaws.{weigh_right}

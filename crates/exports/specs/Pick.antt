@@ -1,6 +1,6 @@
 -- What cs_pick answers: the pick's own numbers, in C's struct.
 -- Assumes nothing.
-use Rattle.pick.specs.declared.Picked.{Picked}
+use Rattle.pick.specs.Pick.{Picked}
 use Rattle.pick.specs.Pick.{picked}
 use Rattle.exports.specs.declared.picking.PickResult.{PickResult}
 

@@ -2,8 +2,7 @@
 -- Assumes nothing.
 use Rattle.std.specs.Prelude.{ℕ}
 use Rattle.header.specs.declared.head.Head.{Head}
-use Rattle.format.specs.declared.reader.Reading.{Reading}
-use Rattle.format.specs.Reading.{number_of, place_of, read_head}
+use Rattle.format.specs.Reading.{Reading, number_of, place_of, read_head}
 use Rattle.exports.specs.declared.reading.ReadResult.{ReadResult}
 
 -- "A good letter answers 0 with its header's numbers and place 0." "Unless stated, every other number in a refusal's result is 0."

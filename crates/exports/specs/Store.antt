@@ -1,6 +1,6 @@
 -- What cs_store answers: the desk's own numbers, in C's struct.
 -- Assumes nothing.
-use Rattle.desk.specs.declared.Stored.{Stored}
+use Rattle.desk.specs.Desk.{Stored}
 use Rattle.exports.specs.declared.keeping.StoreResult.{StoreResult}
 
 -- C's struct, as the desk's

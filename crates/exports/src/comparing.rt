@@ -4,10 +4,11 @@ ghost use Rattle.exports.specs.Told.{order_told};
 ghost use Rattle.exports.specs.Compare.{compared_as};
 
 use crate::told::order_told;
-use compare::compare;
+use compare::{Unlisted, compare};
+use refusals::Refusal;
 
 #[repr(C)]
-#[derive(Drop)]
+#[derive(Clone, Copy, Debug, PartialEq, Eq)]
 pub struct CompareResult {
     pub number: u32,
     pub count: u32,
@@ -23,9 +24,18 @@ pub fn cs_compare(
 ) -> CompareResult
     ensures { CompareDone (order_told t f n) first.now second.now list.old (compared_as result) list.new }
 {
-    let compared = compare(order_told(t, f, n), first, second, list);
-    CompareResult {
-        number: compared.number,
-        count: compared.count as u32,
+    match compare(order_told(t, f, n), first, second, list) {
+        Ok(count) => CompareResult {
+            number: 0,
+            count: count as u32,
+        },
+        Err(Unlisted::Refused(refusal)) => CompareResult {
+            number: refusal.number(),
+            count: 0,
+        },
+        Err(Unlisted::TooMany(count)) => CompareResult {
+            number: Refusal::ManyDifferences.number(),
+            count: count as u32,
+        },
     }
 }

@@ -5,6 +5,7 @@ ghost use Rattle.exports.specs.Told.{as_told};
 
 use crate::told::as_told;
 use cut::secret::cut;
+use refusals::number;
 
 pub fn cs_cut(
     t: u32,
@@ -18,5 +19,5 @@ pub fn cs_cut(
 ) -> u32
     ensures { CutDone mod257 (as_told t f n key) stamp secret.now random.now tray.old result tray.new }
 {
-    cut(as_told(t, f, n, key), stamp, secret, random, tray)
+    number(cut(as_told(t, f, n, key), stamp, secret, random, tray))
 }

@@ -12,7 +12,7 @@ use weighing::weigh;
 
 // What the cutting answers: the number, and the place of a fault in the letter.
 #[repr(C)]
-#[derive(Drop)]
+#[derive(Clone, Copy, Debug, PartialEq, Eq)]
 pub struct MoveCutResult {
     pub number: u32,
     pub place: u32,
@@ -20,13 +20,14 @@ pub struct MoveCutResult {
 
 // What the weighing answers: the number, which sub-letter it is of, and the place of a fault there.
 #[repr(C)]
-#[derive(Drop)]
+#[derive(Clone, Copy, Debug, PartialEq, Eq)]
 pub struct MoveWeighResult {
     pub number: u32,
     pub letter: u32,
     pub place: u32,
 }
 
+// What a move is told. C tells each of its numbers apart.
 fn as_move(
     old_t: u32,
     old_f: u32,
@@ -68,10 +69,15 @@ pub fn cs_move_cut(
     ensures { MoveCutDone mod257 (as_move old_t old_f old_n t f n key length stamp) keeper letter.now random.now tray.old (cut_as result) tray.new }
 {
     let m = as_move(old_t, old_f, old_n, t, f, n, key, length, stamp);
-    let answer = cut(m, keeper as usize, letter, random, tray);
-    MoveCutResult {
-        number: answer.number,
-        place: answer.place as u32,
+    match cut(m, keeper as usize, letter, random, tray) {
+        Ok(()) => MoveCutResult {
+            number: 0,
+            place: 0,
+        },
+        Err(fault) => MoveCutResult {
+            number: fault.refusal.number(),
+            place: fault.place as u32,
+        },
     }
 }
 
@@ -93,10 +99,16 @@ pub fn cs_move_weigh(
     ensures { WeighDone mod257 (as_move old_t old_f old_n t f n key length stamp) keepers.now keeper letters.now slot.old (weighed_as result) slot.new }
 {
     let m = as_move(old_t, old_f, old_n, t, f, n, key, length, stamp);
-    let answer = weigh(m, keepers, keeper as usize, letters, slot);
-    MoveWeighResult {
-        number: answer.number,
-        letter: answer.letter as u32,
-        place: answer.place as u32,
+    match weigh(m, keepers, keeper as usize, letters, slot) {
+        Ok(()) => MoveWeighResult {
+            number: 0,
+            letter: 0,
+            place: 0,
+        },
+        Err(fault) => MoveWeighResult {
+            number: fault.refusal.number(),
+            letter: fault.letter as u32,
+            place: fault.place as u32,
+        },
     }
 }

@@ -5,10 +5,12 @@ ghost use Rattle.exports.specs.Told.{as_told};
 ghost use Rattle.exports.specs.Join.{joined_as};
 
 use crate::told::as_told;
+use header::terms::Terms;
 use join::join;
+use refusals::number;
 
 #[repr(C)]
-#[derive(Drop)]
+#[derive(Clone, Copy, Debug, PartialEq, Eq)]
 pub struct JoinResult {
     pub number: u32,
     pub usable: u32,
@@ -29,13 +31,17 @@ pub fn cs_join(
 ) -> JoinResult
     ensures { JoinDone mod257 (as_told t f n key) stamp length tray.now room.old (joined_as result) room.new }
 {
-    let l = length as usize;
-    let joined = join(as_told(t, f, n, key), stamp, l, tray, room);
+    let terms = Terms {
+        told: as_told(t, f, n, key),
+        stamp,
+        length: length as usize,
+    };
+    let joined = join(terms, tray, room);
     JoinResult {
-        number: joined.number,
+        number: number(joined.outcome),
         usable: joined.usable,
         need: joined.need,
-        set: joined.set as u32,
+        set: u32::from(joined.set.bits),
         trials: joined.trials,
     }
 }

@@ -5,10 +5,11 @@ ghost use Rattle.exports.specs.Told.{as_told};
 ghost use Rattle.exports.specs.Store.{stored_as};
 
 use crate::told::as_told;
-use desk::{fetch_number, store};
+use desk::{fetch, store};
+use refusals::number;
 
 #[repr(C)]
-#[derive(Drop)]
+#[derive(Clone, Copy, Debug, PartialEq, Eq)]
 pub struct StoreResult {
     pub number: u32,
     pub place: u32,
@@ -25,15 +26,20 @@ pub fn cs_store(
 ) -> StoreResult
     ensures { StoreDone (as_told t f n key) keeper held.old letter.now (stored_as result) held.new }
 {
-    let stored = store(as_told(t, f, n, key), keeper as usize, held, letter);
-    StoreResult {
-        number: stored.number,
-        place: stored.place as u32,
+    match store(as_told(t, f, n, key), keeper as usize, held, letter) {
+        Ok(()) => StoreResult {
+            number: 0,
+            place: 0,
+        },
+        Err(fault) => StoreResult {
+            number: fault.refusal.number(),
+            place: fault.place as u32,
+        },
     }
 }
 
 pub fn cs_fetch(t: u32, f: u32, n: u32, key: u32, keeper: u32, held: &[u8]) -> u32
     ensures { result ≡ fetch_number (as_told t f n key) keeper held.now }
 {
-    fetch_number(as_told(t, f, n, key), keeper as usize, held)
+    number(fetch(as_told(t, f, n, key), keeper as usize, held))
 }

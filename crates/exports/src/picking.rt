@@ -6,9 +6,10 @@ ghost use Rattle.exports.specs.Pick.{picked_as};
 
 use crate::told::as_told;
 use pick::pick;
+use refusals::number;
 
 #[repr(C)]
-#[derive(Drop)]
+#[derive(Clone, Copy, Debug, PartialEq, Eq)]
 pub struct PickResult {
     pub number: u32,
     pub stamp: u32,
@@ -20,7 +21,7 @@ pub fn cs_pick(t: u32, f: u32, n: u32, key: u32, tray: &[u8]) -> PickResult
 {
     let picked = pick(as_told(t, f, n, key), tray);
     PickResult {
-        number: picked.number,
+        number: number(picked.outcome),
         stamp: picked.stamp,
         length: picked.length as u32,
     }

@@ -4,12 +4,11 @@ ghost use Rattle.header.specs.Head.{lawful_head};
 ghost use Rattle.format.specs.Reading.{read_of};
 ghost use Rattle.exports.specs.Read.{read_result, numbers};
 
-use format::reader;
-use format::reader::Reading;
+use format::reader::read;
 use header::head::Head;
 
 #[repr(C)]
-#[derive(Drop)]
+#[derive(Clone, Copy, Debug, Default, PartialEq, Eq)]
 pub struct ReadResult {
     pub number: u32,
     pub place: u32,
@@ -43,18 +42,12 @@ fn good(h: Head) -> ReadResult
 pub fn cs_read(slot: &[u8]) -> ReadResult
     ensures { result ≡ read_result (read_of slot.now) }
 {
-    match reader::read(slot) {
-        Reading::Good(h) => good(h),
-        Reading::Bad { number, place } => ReadResult {
-            number,
-            place: place as u32,
-            t: 0,
-            f: 0,
-            n: 0,
-            key: 0,
-            keeper: 0,
-            stamp: 0,
-            length: 0,
+    match read(slot) {
+        Ok(head) => good(head),
+        Err(fault) => ReadResult {
+            number: fault.refusal.number(),
+            place: fault.place as u32,
+            ..ReadResult::default()
         },
     }
 }

@@ -5,6 +5,7 @@ ghost use Rattle.exports.specs.Told.{order_told, as_told};
 use header::order::Order;
 use header::told::Told;
 
+// A usize is made From no u32, though it holds each.
 pub fn order_told(t: u32, f: u32, n: u32) -> Order
     ensures { result ≡ order_told t f n }
 {

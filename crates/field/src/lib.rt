@@ -24,25 +24,25 @@ const RECIPROCALS: [u16; 257] = [
 pub fn add(a: u16, b: u16) -> u16
     ensures { result ≡ mod257.add a b }
 {
-    (((a as u32) + (b as u32)) % 257) as u16
+    ((u32::from(a) + u32::from(b)) % 257) as u16
 }
 
 // 256 is minus one.
 pub fn sub(a: u16, b: u16) -> u16
     ensures { result ≡ mod257.sub a b }
 {
-    (((a as u32) + 256 * (b as u32)) % 257) as u16
+    ((u32::from(a) + 256 * u32::from(b)) % 257) as u16
 }
 
 pub fn mul(a: u16, b: u16) -> u16
     ensures { result ≡ mod257.mul a b }
 {
-    (((a as u32) * (b as u32)) % 257) as u16
+    ((u32::from(a) * u32::from(b)) % 257) as u16
 }
 
 // The word whose product with a is 1, and 0 for 0.
 pub fn reciprocal(a: u16) -> u16
     ensures { result ≡ mod257.inv a }
 {
-    RECIPROCALS[(a % 257) as usize]
+    RECIPROCALS[usize::from(a % 257)]
 }

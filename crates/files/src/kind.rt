@@ -4,22 +4,25 @@ use std::io::{Error, ErrorKind};
 use std::os::unix::fs::MetadataExt;
 use system::known;
 
-#[derive(Drop)]
+#[derive(Clone, Copy, Debug, PartialEq, Eq)]
 pub enum Kind {
-    Missing,
     File,
     Folder,
     Link,
     Other,
-    // and why
-    Unknown(Error),
 }
 
-#[derive(Drop)]
+// Whose a file is.
+#[derive(Clone, Copy, Debug, PartialEq, Eq)]
+pub struct Owner {
+    pub user: u32,
+    pub group: u32,
+}
+
+#[derive(Clone, Copy, Debug, PartialEq, Eq)]
 pub struct Place {
     pub kind: Kind,
-    pub owner: u32,
-    pub group: u32,
+    pub owner: Owner,
 }
 
 fn kind_of(found: &Metadata) -> Kind {
@@ -34,31 +37,23 @@ fn kind_of(found: &Metadata) -> Kind {
     }
 }
 
-// Of what the system does not tell of: it is not there, or the error says what is wrong.
-fn kind_without(error: Error) -> Kind {
-    match error.kind() {
-        ErrorKind::NotFound => Kind::Missing,
-        ErrorKind::NotADirectory => Kind::Missing,
-        _ => Kind::Unknown(error),
-    }
-}
-
-fn nobody_s(kind: Kind) -> Place {
+fn place_of(found: &Metadata) -> Place {
     Place {
-        kind,
-        owner: 0,
-        group: 0,
-    }
-}
-
-// What stands at a name: a link itself, or where follows is true what it leads to.
-pub fn seen(rt: &HostRuntime, name: &[u8], follows: bool) -> Place {
-    match known(rt, name, follows) {
-        Ok(found) => Place {
-            kind: kind_of(&found),
-            owner: found.uid(),
+        kind: kind_of(found),
+        owner: Owner {
+            user: found.uid(),
             group: found.gid(),
         },
-        Err(error) => nobody_s(kind_without(error)),
+    }
+}
+
+// What stands at a name, if anything does: a link itself, or where follows is true what it leads to.
+pub fn seen(rt: &HostRuntime, name: &[u8], follows: bool) -> Result<Option<Place>, Error> {
+    match known(rt, name, follows) {
+        Ok(found) => Ok(Some(place_of(&found))),
+        Err(error) => match error.kind() {
+            ErrorKind::NotFound | ErrorKind::NotADirectory => Ok(None),
+            _ => Err(error),
+        },
     }
 }

@@ -1,163 +1,86 @@
 // Files, read whole into a room.
-ghost use Rattle.std.specs.Prelude.{◌≡◌};
-ghost use Rattle.io.specs.Counts.{IsPrefixLen};
+ghost use Rattle.std.specs.Prelude.{◌≡◌, ◌≤◌, length, take, IfOk};
+ghost use Rattle.saying.specs.Status.{code, ElseFailed};
 
 use crate::kind::{Kind, seen};
+use saying::status::Status;
 use saying::{refused, trouble};
-use std::fs::File;
 use std::io::Error;
 use system::input::taken;
 use system::named::opened;
-use system::words::word;
 
-// How reading went, and why there was trouble.
+// Why a file was not read.
 #[derive(Drop)]
-pub enum Got {
-    Read,
+pub enum Unread {
     Missing,
     NoFile,
     Trouble(Error),
 }
 
-#[derive(Drop)]
-pub struct Loaded {
-    pub got: Got,
-    pub count: usize,
-}
-
-fn nothing(got: Got) -> Loaded
-    ensures { result.count ≡ 0 }
-{
-    Loaded { got, count: 0 }
-}
-
-// What a file that is open has, as far as there is room.
-fn load_open(mut file: File, room: &mut [u8]) -> Loaded
-    ensures { IsPrefixLen result.count room.new }
-{
-    let took = taken(&mut file, room);
-    if took.failed {
-        return nothing(Got::Trouble(took.error));
-    }
-    Loaded {
-        got: Got::Read,
-        count: took.count,
+impl From<Error> for Unread {
+    fn from(error: Error) -> Unread {
+        Unread::Trouble(error)
     }
 }
 
-// Reads a plain file as far as there is room.
-fn load_file(rt: &HostRuntime, name: &[u8], room: &mut [u8]) -> Loaded
-    ensures { IsPrefixLen result.count room.new }
+// Reads a file as far as there is room, or where follows is true what a link leads to. What is no plain file is not opened.
+pub fn load<'a>(
+    rt: &HostRuntime,
+    name: &[u8],
+    follows: bool,
+    room: &'a mut [u8],
+) -> Result<&'a [u8], Unread>
+    ensures { IfOk result (λ bytes. length bytes.now ≤ length room.old) }
 {
-    match opened(rt, name) {
-        Ok(file) => load_open(file, room),
-        Err(error) => nothing(Got::Trouble(error)),
+    let Some(found) = seen(rt, name, follows)? else {
+        return Err(Unread::Missing);
+    };
+    if found.kind != Kind::File {
+        return Err(Unread::NoFile);
     }
+    let mut file = opened(rt, name)?;
+    Ok(taken(&mut file, room)?)
 }
 
-// Reads a file, or where follows is true what a link leads to. What is no plain file is not opened.
-pub fn load(rt: &HostRuntime, name: &[u8], follows: bool, room: &mut [u8]) -> Loaded
-    ensures { IsPrefixLen result.count room.new }
+// Says why a word names nothing that can be read.
+fn say_unread(rt: &HostRuntime, word: &[u8], why: Unread) -> Status
+    ensures { code result ≡ 100 }
 {
-    let found = seen(rt, name, follows);
-    let kind = found.kind;
-    match kind {
-        Kind::File => load_file(rt, name, room),
-        Kind::Missing => nothing(Got::Missing),
-        Kind::Unknown(error) => nothing(Got::Trouble(error)),
-        Kind::Folder => nothing(Got::NoFile),
-        Kind::Link => nothing(Got::NoFile),
-        Kind::Other => nothing(Got::NoFile),
-    }
-}
-
-// What a command was given to read, or that there is nothing.
-#[derive(Drop)]
-pub struct Input {
-    pub right: bool,
-    pub count: usize,
-}
-
-fn unread() -> Input
-    ensures { result.count ≡ 0 }
-{
-    Input {
-        right: false,
-        count: 0,
-    }
-}
-
-fn from_standard_input(rt: &HostRuntime, room: &mut [u8]) -> Input
-    ensures { IsPrefixLen result.count room.new }
-{
-    let took = taken(&mut rt.stdin(), room);
-    if took.failed {
-        trouble(rt, b"standard input", b"cannot be read", took.error);
-        return unread();
-    }
-    Input {
-        right: true,
-        count: took.count,
+    match why {
+        Unread::Missing => refused(rt, word, b"there is no such file"),
+        Unread::NoFile => refused(
+            rt,
+            word,
+            b"is not a plain file, and is not read; what a pipe gives is read from standard input, by -",
+        ),
+        Unread::Trouble(error) => trouble(rt, word, b"cannot be read", error),
     }
 }
 
 // Reads what a word names, a file or '-' for standard input; says what is wrong where there is nothing.
-fn given(rt: &HostRuntime, word: &[u8], room: &mut [u8]) -> Input
-    ensures { IsPrefixLen result.count room.new }
+pub fn given<'a>(rt: &HostRuntime, word: &[u8], room: &'a mut [u8]) -> Result<&'a [u8], Status>
+    ensures bytes { IfOk result (λ bytes. length bytes.now ≤ length room.old) }
+    ensures failed { ElseFailed result }
 {
     if is_dash(word) {
-        return from_standard_input(rt, room);
+        return taken(&mut rt.stdin(), room).map_err(|error| trouble(
+            rt,
+            b"standard input",
+            b"cannot be read",
+            error,
+        ));
     }
-    let loaded = load(rt, word, true, room);
-    let got = loaded.got;
-    match got {
-        Got::Read => Input {
-            right: true,
-            count: loaded.count,
-        },
-        Got::Missing => {
-            refused(rt, word, b"there is no such file");
-            unread()
-        }
-        Got::NoFile => {
-            refused(
-                rt,
-                word,
-                b"is not a plain file, and is not read; what a pipe gives is read from standard input, by -",
-            );
-            unread()
-        }
-        Got::Trouble(error) => {
-            trouble(rt, word, b"cannot be read", error);
-            unread()
-        }
-    }
-}
-
-// Reads what one of the program's words names.
-pub fn given_by(rt: &HostRuntime, at: usize, room: &mut [u8]) -> Input
-    ensures { IsPrefixLen result.count room.new }
-{
-    let mut name = io::buffer();
-    let count = word(rt, at, &mut name).count;
-    given(rt, &name[..count], room)
+    load(rt, word, true, room).map_err(|why| say_unread(rt, word, why))
 }
 
 // Whether a word stands for standard input or output.
 pub fn is_dash(word: &[u8]) -> bool {
-    if word.len() != 1 {
-        return false;
-    }
-    word[0] == 45
+    word == b"-".as_slice()
 }
 
-// So many of some bytes, or all where there are fewer.
-pub fn front(count: usize, bytes: &[u8]) -> usize
-    ensures { IsPrefixLen result bytes.now }
+// So many of some bytes, or all where there are fewer. It stays for its promise: nothing said is cut short so any more.
+pub fn front(count: usize, bytes: &[u8]) -> &[u8]
+    ensures { result.now ≡ take count bytes.now }
 {
-    if count < bytes.len() {
-        count
-    } else {
-        bytes.len()
-    }
+    &bytes[..count.min(bytes.len())]
 }

@@ -9,10 +9,8 @@ use Rattle.std.proofs.Math.Nat.{sub-zero}
 use borrow.Author.Tests.{eq-eqb, eqb-true}
 use Rattle.header.specs.declared.head.Head.{Head}
 use Rattle.header.specs.Head.{head_of}
-use Rattle.format.specs.declared.reader.Reading.{Reading}
-use Rattle.format.specs.declared.reader.Reading.TheVariants.{Good, Bad}
+use Rattle.format.specs.Reading.{Reading, Good, Bad, block_words, letter_block_number, first_fault, ends_in_zeros, ending, judged_from, read_as}
 use Rattle.format.specs.Letter.{blocks_for}
-use Rattle.format.specs.Reading.{block_words, letter_block_number, first_fault, ends_in_zeros, ending, judged_from, read_as}
 
 bad_not_good : (number place : ℕ) (h : Head) → Bad number place ≡ Good h → ⊥
 bad_not_good number place h e = let z : ◌≡◌ {A = ℕ} 0 1 = cc in omega arith

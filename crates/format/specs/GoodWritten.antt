@@ -15,13 +15,12 @@ use Rattle.header.specs.declared.head.Head.{Head}
 use Rattle.header.specs.Head.{lawful_head}
 use Rattle.header.specs.HeadLaws.{HeadFacts, lawful_head_facts}
 use Rattle.header.specs.Passing.{passed}
-use Rattle.format.specs.declared.reader.Reading.TheVariants.{Good}
+use Rattle.format.specs.Reading.{Good, block_words, all_shares, shares_of, ends_in_zeros, read_as, read_of}
 use Rattle.format.specs.Letter.{block_shares, block_bytes, slot_bytes}
 use Rattle.format.specs.LetterSizes.{block_count, BlocksFacts, blocks_facts}
 use Rattle.format.specs.LetterBlockLaws.{BlockRead, block_read}
 use Rattle.format.specs.ShareLaws.{block_shares_padded}
 use Rattle.format.specs.SlotWords.{shares_at, length-block_words, length-shares_at, length-all_shares}
-use Rattle.format.specs.Reading.{block_words, all_shares, shares_of, ends_in_zeros, read_as, read_of}
 use Rattle.format.specs.GoodSlot.{GoodSlot, good_slot}
 
 -- a slot that is as written, of what it gives

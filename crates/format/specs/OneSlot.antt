@@ -6,11 +6,10 @@ use Rattle.lists.specs.Below.{Below}
 use Rattle.header.specs.declared.head.Head.{Head}
 use Rattle.header.specs.Head.{lawful_head}
 use Rattle.header.specs.HeadLaws.{lawful_head_facts}
-use Rattle.format.specs.declared.reader.Reading.TheVariants.{Good}
+use Rattle.format.specs.Reading.{Good, block_words, shares_of, read_as, read_of}
 use Rattle.format.specs.LetterSizes.{block_count, blocks_facts}
 use Rattle.format.specs.ReadingBounds.{good_lawful_as}
 use Rattle.format.specs.Letter.{slot_bytes, letter_bytes}
-use Rattle.format.specs.Reading.{block_words, shares_of, read_as, read_of}
 use Rattle.format.specs.WrittenReads.{ReadsAs, written_reads}
 use Rattle.format.specs.GoodWritten.{good_written_as, good_written}
 

@@ -1,16 +1,26 @@
 -- What a slot reads as, by the mark that it should have and the most that its words 14 may be; as a letter by 81 and 0.
 -- Assumes nothing.
-use Rattle.std.specs.Prelude.{ℕ, zero, suc, ◌*◌, ◌-◌, max, Bool, cond, ◌&&◌, List, eqb, length, take, drop}
+use Rattle.std.specs.Prelude.{ℕ, zero, suc, ◌*◌, ◌-◌, max, Bool, cond, ◌&&◌, List, Result, Ok, Err, eqb, length, take, drop}
 use Rattle.lists.specs.Pieces.{pieces}
 use Rattle.block.specs.Words.{words_of}
 use Rattle.block.specs.Check.{all_at_most, block_number}
+use Rattle.refusals.specs.Numbers.{code}
 use Rattle.header.specs.declared.head.Head.{Head}
 use Rattle.header.specs.FirstOf.{first_of}
 use Rattle.header.specs.Head.{head_of}
 use Rattle.header.specs.Rules.{mark_right, header_right}
-use Rattle.format.specs.declared.reader.Reading.{Reading}
-use Rattle.format.specs.declared.reader.Reading.TheVariants.{Good, Bad}
+use Rattle.format.specs.declared.reader.Fault.{Fault}
 use Rattle.format.specs.Letter.{blocks_for}
+
+-- What a slot reads as: "A good letter answers 0 with its header's numbers and place 0"; else the number of what is wrong, "and its place is in the result".
+pub data Reading : Type 0 where
+  Good : Head → Reading
+  Bad : ℕ → ℕ → Reading
+
+-- the reader's answer as that
+abbrev pub reading_of : Result Head Fault → Reading
+reading_of (Ok h) = Good h
+reading_of (Err fault) = Bad (code fault.refusal) fault.place
 
 -- the words of block p
 abbrev pub block_words : List ℕ → ℕ → List ℕ

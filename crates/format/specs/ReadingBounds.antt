@@ -5,12 +5,10 @@ use Rattle.std.proofs.Common.{arith}
 use Rattle.std.proofs.lemmas.Bool.{eqb-false}
 use Rattle.header.specs.declared.head.Head.{Head}
 use Rattle.header.specs.Head.{head_of, lawful_head}
-use Rattle.format.specs.declared.reader.Reading.{Reading}
-use Rattle.format.specs.declared.reader.Reading.TheVariants.{Good, Bad}
+use Rattle.format.specs.Reading.{Reading, Good, Bad, block_words, letter_block_number, first_fault, ending, ends_in_zeros, judged_from, read_as, read_of, place_of}
 use Rattle.format.specs.GoodSlot.{good_slot}
 use Rattle.format.specs.Letter.{blocks_for}
 use Rattle.format.specs.LetterBlockLaws.{block_read}
-use Rattle.format.specs.Reading.{block_words, letter_block_number, first_fault, ending, ends_in_zeros, judged_from, read_as, read_of, place_of}
 use Rattle.format.specs.SlotWords.{length-block_words}
 
 pub good_lawful_as : (mark most : ℕ) (slot : List ℕ) (h : Head) → read_as mark most slot ≡ Good h → lawful_head h ≡ true

@@ -15,13 +15,12 @@ use Rattle.header.specs.declared.head.Head.{Head}
 use Rattle.header.specs.Head.{lawful_head, head_of, head_words}
 use Rattle.header.specs.HeadLaws.{HeadFacts, lawful_head_facts}
 use Rattle.header.specs.HeaderLaws.{length-head_words, head_of-words, from_written}
-use Rattle.format.specs.declared.reader.Reading.TheVariants.{Good}
+use Rattle.format.specs.Reading.{Good, block_words, letter_block_number, all_shares, shares_of, ends_in_zeros, read_as}
 use Rattle.format.specs.Letter.{block_shares, block_bytes, slot_bytes}
 use Rattle.format.specs.LetterSizes.{block_count, BlocksFacts, blocks_facts, length-block_shares, length-block_bytes}
 use Rattle.format.specs.SlotWords.{shares_at}
 use Rattle.format.specs.LetterBlockLaws.{sealed-append, below_block_words, block_written}
 use Rattle.format.specs.ShareLaws.{pieces-shares, below_block_shares}
-use Rattle.format.specs.Reading.{block_words, letter_block_number, all_shares, shares_of, ends_in_zeros, read_as}
 use Rattle.format.specs.GoodSlot.{slot_good}
 
 -- a slot as written, with a mark and a number in word 14: it reads as good, and gives back what it was written from

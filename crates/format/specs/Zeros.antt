@@ -6,9 +6,8 @@ use Rattle.block.specs.Check.{all_at_most, checked, block_number}
 use Rattle.block.specs.Words.{words_of}
 use Rattle.header.specs.Head.{head_of}
 use Rattle.header.specs.Rules.{mark_right}
-use Rattle.format.specs.declared.reader.Reading.TheVariants.{Bad}
+use Rattle.format.specs.Reading.{Bad, read_of, read_as, judged_from, first_fault, letter_block_number}
 use Rattle.format.specs.Letter.{blocks_for}
-use Rattle.format.specs.Reading.{read_of, read_as, judged_from, first_fault, letter_block_number}
 
 -- "A slot of zeros"
 abbrev pub zero_slot : List ℕ

@@ -11,11 +11,12 @@ use header::head;
 use header::head::Head;
 
 // How many blocks hold l share words.
+#[tactic(auto, unfolding(crate::specs::Letter::blocks_for))]
 pub fn blocks(l: usize) -> usize
     requires { l ≤ 952 }
     ensures { result ≡ blocks_for l }
 {
-    (l + 237) / 238
+    l.div_ceil(238)
 }
 
 // Where the share words of a block end whose first is word `from` of l.
@@ -23,17 +24,7 @@ pub fn end_of(from: usize, l: usize) -> usize
     requires { from ≤ 952 }
     ensures { result ≡ min (from + 238) l }
 {
-    if from + 238 <= l { from + 238 } else { l }
-}
-
-fn clear(slot: &mut [u8])
-    ensures { slot.new ≡ replicate (length slot.old) 0 }
-{
-    let mut i = 0;
-    while i < slot.len() {
-        slot[i] = 0;
-        i += 1;
-    }
+    (from + 238).min(l)
 }
 
 // Writes block p, of its own share words.
@@ -51,15 +42,14 @@ fn write_block(mark: u16, from: u16, h: Head, p: usize, shares: &[u16], block: &
 }
 
 // Writes a slot, with a mark in word 0 of each block and a number in word 14.
+#[tactic(auto, using(header::specs::HeadLaws::lawful_head_facts), unfolding(crate::specs::Letter::blocks_for))]
 pub fn write_as(mark: u16, from: u16, h: Head, shares: &[u16], slot: &mut [u8])
     requires { (lawful_head h ≡ true) × (length shares.now ≡ h.length) × (length slot.old ≡ 2048) }
     ensures { slot.new ≡ slot_bytes mark from h shares.now }
 {
-    clear(slot);
+    slot.fill(0);
     let l = shares.len();
-    let count = blocks(l);
-    let mut p = 0;
-    while p < count {
+    for p in 0..blocks(l) {
         let start = 238 * p;
         let to = end_of(start, l);
         let at = 512 * p;
@@ -71,7 +61,6 @@ pub fn write_as(mark: u16, from: u16, h: Head, shares: &[u16], slot: &mut [u8])
             &shares[start..to],
             &mut slot[at..at + 512],
         );
-        p += 1;
     }
 }
 

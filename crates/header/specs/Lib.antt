@@ -4,6 +4,7 @@ pub mod FirstOf
 pub mod Terms
 pub mod Head
 pub mod Rules
+pub mod Equal
 pub mod Passing
 pub mod Chain
 pub mod OrderLaws

@@ -1,15 +1,14 @@
 // The head of a letter: what the header words of each of its blocks say.
 ghost use Rattle.std.specs.Prelude.{◌≡◌, true, ◌<◌, length, get_or};
 ghost use Rattle.block.specs.Words.{words_of};
-ghost use Rattle.header.specs.Head.{lawful_head, same_head, head_words, order_of, told_of, stamp_of, length_of, head_of, low_byte};
+ghost use Rattle.header.specs.Head.{lawful_head, head_words, order_of, told_of, stamp_of, length_of, head_of, low_byte};
 
 use crate::order::Order;
 use crate::terms::{lawful_length, lawful_stamp};
 use crate::told::Told;
-use crate::{order, told};
 use block::words::word_at;
 
-#[derive(Clone, Copy)]
+#[derive(Clone, Copy, Debug, PartialEq, Eq)]
 pub struct Head {
     pub told: Told,
     pub keeper: usize,
@@ -17,56 +16,53 @@ pub struct Head {
     pub length: usize,
 }
 
-pub fn lawful(h: Head) -> bool
-    ensures { result ≡ lawful_head h }
-{
-    told::lawful(h.told)
-        && (order::has_keeper(h.told.order, h.keeper)
-            && (lawful_stamp(h.stamp) && lawful_length(h.length)))
-}
-
-pub fn same(a: Head, b: Head) -> bool
-    ensures { result ≡ same_head a b }
-{
-    told::same(a.told, b.told)
-        && (a.keeper == b.keeper && (a.stamp == b.stamp && a.length == b.length))
+impl Head {
+    #[tactic(auto, unfolding(crate::specs::Head::lawful_head))]
+    pub fn is_lawful(self) -> bool
+        ensures { result ≡ lawful_head self }
+    {
+        self.told.is_lawful()
+            && self.told.order.has_keeper(self.keeper)
+            && lawful_stamp(self.stamp)
+            && lawful_length(self.length)
+    }
 }
 
 // Words 0..15 of block p, with a mark in word 0 and a number in word 14.
+#[tactic(auto, using(crate::specs::HeadLaws::lawful_head_facts))]
 pub fn words(mark: u16, from: u16, h: Head, p: usize) -> [u16; 16]
     requires { (lawful_head h ≡ true) × (p < 4) }
     ensures { result ≡ head_words mark from h p }
 {
-    let told = h.told;
-    let o = told.order;
-    let stamp = h.stamp;
-    let length = h.length;
+    let Told { order, key } = h.told;
+    let stamp = h.stamp.to_be_bytes();
+    let length = (h.length as u16).to_be_bytes();
     [
         mark,
         1,
-        o.t as u16,
-        o.f as u16,
-        o.n as u16,
+        order.t as u16,
+        order.f as u16,
+        order.n as u16,
         h.keeper as u16,
-        (stamp / 16777216 % 256) as u16,
-        (stamp / 65536 % 256) as u16,
-        (stamp / 256 % 256) as u16,
-        (stamp % 256) as u16,
-        (length / 256 % 256) as u16,
-        (length % 256) as u16,
+        u16::from(stamp[0]),
+        u16::from(stamp[1]),
+        u16::from(stamp[2]),
+        u16::from(stamp[3]),
+        u16::from(length[0]),
+        u16::from(length[1]),
         p as u16,
-        told.key as u16,
+        key as u16,
         from,
         0,
     ]
 }
 
 // The low byte of word i of a block.
-fn low(block: &[u8], i: usize) -> u32
+fn low(block: &[u8], i: usize) -> u8
     requires { (length block.now ≡ 512) × (i < 256) }
     ensures { result ≡ low_byte (words_of block.now) i }
 {
-    (word_at(block, i) % 256) as u32
+    (word_at(block, i) % 256) as u8
 }
 
 // Word i of a block.
@@ -74,7 +70,7 @@ fn wide(block: &[u8], i: usize) -> usize
     requires { (length block.now ≡ 512) × (i < 256) }
     ensures { result ≡ get_or (words_of block.now) i 0 }
 {
-    word_at(block, i) as usize
+    usize::from(word_at(block, i))
 }
 
 fn order_of(block: &[u8]) -> Order
@@ -103,14 +99,14 @@ fn stamp_of(block: &[u8]) -> u32
     requires { length block.now ≡ 512 }
     ensures { result ≡ stamp_of (words_of block.now) }
 {
-    low(block, 6) * 16777216 + low(block, 7) * 65536 + low(block, 8) * 256 + low(block, 9)
+    u32::from_be_bytes([low(block, 6), low(block, 7), low(block, 8), low(block, 9)])
 }
 
 fn length_of(block: &[u8]) -> usize
     requires { length block.now ≡ 512 }
     ensures { result ≡ length_of (words_of block.now) }
 {
-    (low(block, 10) * 256 + low(block, 11)) as usize
+    usize::from(u16::from_be_bytes([low(block, 10), low(block, 11)]))
 }
 
 // What the header words of a block say.

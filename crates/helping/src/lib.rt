@@ -1,15 +1,15 @@
 // How the program is used, in words.
 #![tactic(auto)]
 
-use block::bytes::same;
-use options::form;
-use options::form::command_of;
+use options::command::Command;
 use saving::save::said;
-use saying::line::{four, say};
+use saying::line::Line;
+use saying::status::Status;
+use std::fmt::Write;
 use system::output::Stream;
 use system::words::{word as word_at, word_count};
 
-const USAGE: [u8; 1730] = *b"\
+const USAGE: &str = "\
 csalgodes: a signing key as letters, one for each of N keepers, that come back
 right or not at all.
 
@@ -43,7 +43,7 @@ The status is the number that the library answers, 0 where all is well; 99
 where trays or keys differ; 100 is trouble with a file, 101 a wrong word.
 ";
 
-const CUT: [u8; 594] = *b"\
+const CUT: &str = "\
 csalgodes cut --order T,F,N --key K --stamp S SECRET FOLDER
 
 Cuts SECRET, a file of 1 to 952 bytes or - for standard input, into a letter
@@ -57,7 +57,7 @@ and remove the folder. A cut that was killed may leave FOLDER.new behind, with
 letters in it: remove that too.
 ";
 
-const SHOW: [u8; 238] = *b"\
+const SHOW: &str = "\
 csalgodes show LETTER
 
 Says what LETTER is of, a file or - for standard input:
@@ -68,7 +68,7 @@ A letter that is damaged, or is none, is answered by its number, 9 to 13, or 4
 where it has not 2048 bytes.
 ";
 
-const STORE: [u8; 708] = *b"\
+const STORE: &str = "\
 csalgodes store --order T,F,N --key K --keeper X DESK LETTER
 
 Offers LETTER, a file or - for standard input, to the desk of keeper X: the
@@ -83,7 +83,7 @@ Whatever is killed, the desk is the old letter or the new one; DESK.lock and
 DESK.new-XXXXXX may stay: remove them where no store is at work.
 ";
 
-const FETCH: [u8; 300] = *b"\
+const FETCH: &str = "\
 csalgodes fetch --order T,F,N --key K --keeper X [--replace] DESK LETTER
 
 Hands out the letter that keeper X's desk holds: into the file LETTER, or to
@@ -91,7 +91,7 @@ standard output for -. A desk that holds nothing good, or is not there, is
 answered 17. A file LETTER that is there stays, unless --replace is said.
 ";
 
-const JOIN: [u8; 816] = *b"\
+const JOIN: &str = "\
 csalgodes join --order T,F,N --key K [--stamp S --length L] [--replace]
                TRAY SECRET
 
@@ -108,7 +108,7 @@ letter than the one joined, that is said too: ask more keepers before you take
 an older key. Where SECRET is - all this goes to standard error.
 ";
 
-const COMPARE: [u8; 340] = *b"\
+const COMPARE: &str = "\
 csalgodes compare --order T,F,N BEFORE AFTER
 
 Says which words differ between the slots 1 .. N of two folders, a line each:
@@ -120,7 +120,7 @@ and with 99 where one does. The words are of letters: keep what it prints as
 you keep the letters.
 ";
 
-const MOVE_CUT: [u8; 1040] = *b"\
+const MOVE_CUT: &str = "\
 csalgodes move-cut --from T,F,N --order T,F,N --key K --length L --stamp S
                    --keeper X LETTER FOLDER
 
@@ -140,7 +140,7 @@ remove that too. LETTER stays. Keep it until the move is seen to be right:
 'csalgodes help move-check' says how.
 ";
 
-const MOVE_WEIGH: [u8; 1058] = *b"\
+const MOVE_WEIGH: &str = "\
 csalgodes move-weigh --from T,F,N --order T,F,N --key K --length L --stamp S
                      --keepers A,B,.. --keeper Y [--replace] FOLDER LETTER
 
@@ -162,7 +162,7 @@ they are weighed. No old letter may go before the move is seen to be right:
 'csalgodes help move-check' says how.
 ";
 
-const MOVE_CHECK: [u8; 1090] = *b"\
+const MOVE_CHECK: &str = "\
 csalgodes move-check --from T,F,N --order T,F,N --key K OLD NEW
 
 Joins two trays, the folders OLD and NEW, and says whether both give the same
@@ -186,101 +186,81 @@ a stamp above those of both. If they are the same, store the new letters, and
 drop the old ones. Each tray is as good as the key: remove both.
 ";
 
-// What a command does that moves a key.
-fn say_move_help(rt: &HostRuntime, command: usize) -> i32 {
-    if command == form::MOVE_CUT {
-        told(rt, &MOVE_CUT)
-    } else if command == form::MOVE_WEIGH {
-        told(rt, &MOVE_WEIGH)
-    } else {
-        told(rt, &MOVE_CHECK)
-    }
-}
-
 // What one command does.
-pub fn say_help(rt: &HostRuntime, command: usize) -> i32 {
-    if command == form::CUT {
-        told(rt, &CUT)
-    } else if command == form::SHOW {
-        told(rt, &SHOW)
-    } else if command == form::STORE {
-        told(rt, &STORE)
-    } else if command == form::FETCH {
-        told(rt, &FETCH)
-    } else if command == form::JOIN {
-        told(rt, &JOIN)
-    } else if command == form::COMPARE {
-        told(rt, &COMPARE)
-    } else {
-        say_move_help(rt, command)
-    }
+pub fn say_help(rt: &HostRuntime, command: Command) -> Result<(), Status> {
+    let text = match command {
+        Command::Cut => CUT,
+        Command::Show => SHOW,
+        Command::Store => STORE,
+        Command::Fetch => FETCH,
+        Command::Join => JOIN,
+        Command::Compare => COMPARE,
+        Command::MoveCut => MOVE_CUT,
+        Command::MoveWeigh => MOVE_WEIGH,
+        Command::MoveCheck => MOVE_CHECK,
+    };
+    told(rt, text)
 }
 
-// 0, or 100 where standard output does not take it.
-fn told(rt: &HostRuntime, text: &[u8]) -> i32 {
-    if said(rt, Stream::Output, text) {
-        0
-    } else {
-        100
-    }
+fn told(rt: &HostRuntime, text: &str) -> Result<(), Status> {
+    said(rt, Stream::Output, text.as_bytes())
 }
 
-pub fn say_version(rt: &HostRuntime) -> i32 {
+pub fn say_version(rt: &HostRuntime) -> Result<(), Status> {
     if word_count(rt) > 2 {
-        return too_many(rt, 2);
+        return Err(too_many(rt, 2));
     }
-    told(rt, b"csalgodes 0.6.0\n")
+    told(rt, "csalgodes 0.6.0\n")
 }
 
 // What is said where there is no word at all.
-pub fn say_usage(rt: &HostRuntime) -> i32 {
-    said(rt, Stream::Error, &USAGE);
-    101
+pub fn say_usage(rt: &HostRuntime) -> Status {
+    let _ = said(rt, Stream::Error, USAGE.as_bytes());
+    Status::Misused
 }
 
 // A word that is wrong, where no command is named.
-pub fn wrong_word(rt: &HostRuntime, word: &[u8], rule: &[u8]) -> i32 {
-    let mut out = [0u8; 8192];
-    let count = four(&mut out, b"csalgodes: '", word, b"': ", rule);
-    say(rt, &mut out, count);
-    let more = four(
-        &mut out,
-        b"csalgodes: 'csalgodes help' says how it is used",
-        b"",
-        b"",
-        b"",
-    );
-    say(rt, &mut out, more);
-    101
+pub fn wrong_word(rt: &HostRuntime, word: &[u8], rule: &str) -> Status {
+    let mut line = Line::new();
+    line.add(b"'");
+    line.add(word);
+    let _ = write!(line, "': {rule}");
+    line.say(rt);
+    let mut more = Line::new();
+    more.add(b"'csalgodes help' says how it is used");
+    more.say(rt);
+    Status::Misused
 }
 
-fn too_many(rt: &HostRuntime, at: usize) -> i32 {
-    let mut word = io::buffer();
-    let count = word_at(rt, at, &mut word).count;
-    wrong_word(rt, &word[..count], b"is one word too many")
+pub fn no_such_command(rt: &HostRuntime, word: &[u8]) -> Status {
+    wrong_word(rt, word, "there is no such command")
 }
 
-fn help_of(rt: &HostRuntime, word: &[u8]) -> i32 {
-    if same(word, b"help") {
-        return told(rt, &USAGE);
+fn too_many(rt: &HostRuntime, at: usize) -> Status {
+    let mut room = io::buffer();
+    let word = word_at(rt, at, &mut room).unwrap_or(&[]);
+    wrong_word(rt, word, "is one word too many")
+}
+
+fn help_of(rt: &HostRuntime, word: &[u8]) -> Result<(), Status> {
+    if word == b"help".as_slice() {
+        return told(rt, USAGE);
     }
-    let command = command_of(word);
-    if command == form::COMMANDS {
-        return wrong_word(rt, word, b"there is no such command");
+    match Command::of(word) {
+        Some(command) => say_help(rt, command),
+        None => Err(no_such_command(rt, word)),
     }
-    say_help(rt, command)
 }
 
 // help, or help of a command.
-pub fn help_word(rt: &HostRuntime) -> i32 {
+pub fn help_word(rt: &HostRuntime) -> Result<(), Status> {
     let words = word_count(rt);
     if words < 3 {
-        return told(rt, &USAGE);
+        return told(rt, USAGE);
     }
     if words > 3 {
-        return too_many(rt, 3);
+        return Err(too_many(rt, 3));
     }
-    let mut word = io::buffer();
-    let count = word_at(rt, 2, &mut word).count;
-    help_of(rt, &word[..count])
+    let mut room = io::buffer();
+    help_of(rt, word_at(rt, 2, &mut room).unwrap_or(&[]))
 }

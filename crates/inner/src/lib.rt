@@ -1,7 +1,7 @@
 // Calls for the tests alone, of functions that other crates can call and C cannot. The library that C gets does not have them.
 #![tactic(auto)]
 
-ghost use Rattle.std.specs.Prelude.{◌≡◌, cond, ◌∷◌};
+ghost use Rattle.std.specs.Prelude.{◌≡◌, unwrap_or, ◌∷◌};
 ghost use Rattle.algebra.specs.Poly.{eval};
 ghost use Rattle.field.specs.Modulo.{mod257};
 ghost use Rattle.shares.specs.Words.{WordsDone};
@@ -9,6 +9,7 @@ ghost use Rattle.chance.specs.Draw.{drawn as Draw·drawn};
 
 use chance::drawn;
 use header::order::Order;
+use refusals::number;
 use shares::value::share_word;
 use shares::words::cut;
 
@@ -28,7 +29,7 @@ pub extern "C" fn inner_cut_words(
         f: f as usize,
         n: n as usize,
     };
-    cut(o, constants, random, rows)
+    number(cut(o, constants, random, rows))
 }
 
 #[unsafe(no_mangle)]
@@ -41,12 +42,7 @@ pub extern "C" fn inner_share_word(constant: u16, coefficients: &[u16], x: u16) 
 // The word that a draw gives, or 257 where it gives none and is drawn again.
 #[unsafe(no_mangle)]
 pub extern "C" fn inner_drawn(draw: u16) -> u32
-    ensures { result ≡ cond (Draw·drawn draw).taken (Draw·drawn draw).word 257 }
+    ensures { result ≡ unwrap_or (Draw·drawn draw) 257 }
 {
-    let outcome = drawn(draw);
-    if outcome.taken {
-        outcome.word as u32
-    } else {
-        257
-    }
+    drawn(draw).map_or(257, u32::from)
 }

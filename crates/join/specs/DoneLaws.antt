@@ -4,7 +4,7 @@ use Rattle.std.specs.Prelude.{ℕ, ◌<◌, ◌≡◌, List, length}
 use Rattle.std.proofs.Common.{sym, ap, ◌∙◌}
 use Rattle.algebra.specs.Field.{Ops, IsField}
 use Rattle.header.specs.declared.told.Told.{Told}
-use Rattle.join.specs.declared.Joined.{Joined}
+use Rattle.join.specs.Join.{Joined}
 use Rattle.join.specs.Join.{answer, join_refusal, JoinDone, refused, judged}
 use Rattle.join.specs.OutcomeLaws.{outcome_same, outcome_room}
 

@@ -7,6 +7,7 @@ use Rattle.lists.specs.From.{from}
 use Rattle.lists.specs.KeeperSet.{keeper_set}
 use Rattle.algebra.specs.Field.{Ops}
 use Rattle.block.specs.Check.{all_at_most}
+use Rattle.refusals.specs.Numbers.{code_of}
 use Rattle.header.specs.declared.told.Told.{Told}
 use Rattle.header.specs.FirstOf.{first_of}
 use Rattle.header.specs.Terms.{terms_number}
@@ -14,7 +15,7 @@ use Rattle.tray.specs.Tray.{usable, word_of}
 use Rattle.agree.specs.Agreement.{agreeing, needed, reaching, Reaches, constants}
 use Rattle.trials.specs.Sets.{sets}
 use Rattle.trials.specs.Trials.{trials}
-use Rattle.join.specs.declared.Joined.{Joined}
+use Rattle.join.specs.declared.Joined.{Joined as Found}
 
 -- the refusals that need no letter: 1, 2, 3 of what is told, the key with the order, then 4 of what is lent
 unfoldable pub join_refusal : Told → ℕ → ℕ → List ℕ → List ℕ → ℕ
@@ -22,6 +23,18 @@ join_refusal told stamp l tray room =
     first_of (terms_number told stamp l) (cond (eqb (length tray) (2048 * told.order.n) && eqb (length room) l) 0 4)
 
 -- "The result has the number, m, need, and the keepers that match as a 16-bit set"; "its result gets a count of trials"
+pub record Joined : Type 0 where
+  pub number : ℕ
+  pub usable : ℕ
+  pub need : ℕ
+  pub set : ℕ
+  pub trials : ℕ
+
+-- what the join found, as that
+abbrev pub joined_of : Found → Joined
+joined_of r = record { number = code_of r.outcome; usable = r.usable; need = r.need; set = r.set.bits; trials = r.trials }
+
+-- the same, number by number
 abbrev pub answer : ℕ → ℕ → ℕ → ℕ → ℕ → Joined
 answer number m need set trials = record { number = number; usable = m; need = need; set = set; trials = trials }
 

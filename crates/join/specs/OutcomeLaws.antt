@@ -12,7 +12,7 @@ use Rattle.agree.specs.Agreement.{agreeing, needed, Reaches, constants}
 use Rattle.agree.specs.PastLaws.{agreeing-past, reaches_within, reaches_past}
 use Rattle.agree.specs.ScanLaws.{SameScan, scan_many, scan_set, scan_reaches, scan_back}
 use Rattle.agree.specs.ReachesLaws.{reaches_only, reaches_many}
-use Rattle.join.specs.declared.Joined.{Joined}
+use Rattle.join.specs.Join.{Joined}
 use Rattle.join.specs.HuntLaws.{hunt_scan, hunted_scan, hunt-past, hunted-past}
 use Rattle.join.specs.Join.{answer, hunt, hunted, Outcome, few, apart, wide, joined}
 

@@ -10,7 +10,7 @@ use Rattle.header.specs.declared.told.Told.{Told}
 use Rattle.agree.specs.ScanLaws.{SameScan}
 use Rattle.tray.specs.Tray.{usable, word_of}
 use Rattle.tray.specs.Scan.{Scanned}
-use Rattle.join.specs.declared.Joined.{Joined}
+use Rattle.join.specs.Join.{Joined}
 use Rattle.join.specs.Join.{join_refusal, Outcome, JoinDone, judged}
 use Rattle.join.specs.OutcomeLaws.{outcome_scan, outcome_within}
 use Rattle.join.specs.RefusalLaws.{accepted_facts}

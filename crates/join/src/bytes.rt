@@ -8,10 +8,7 @@ pub fn put_bytes(words: &[u16], room: &mut [u8])
     requires same_size { length words.now ≡ length room.old }
     ensures { room.new ≡ words.now }
 {
-    let mut i = 0;
-    while i < room.len() {
-        let byte = words[i] as u8;
-        room[i] = byte;
-        i += 1;
+    for (i, &word) in words.iter().enumerate() {
+        room[i] = word as u8;
     }
 }

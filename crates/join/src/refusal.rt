@@ -1,10 +1,11 @@
 // What forbids a join before any letter is read.
 ghost use Rattle.std.specs.Prelude.{◌≡◌, ◌&&◌, ◌*◌, ◌≤◌, eqb, length};
+ghost use Rattle.refusals.specs.Numbers.{code_of};
 ghost use Rattle.join.specs.Join.{join_refusal};
 
 use header::order::Order;
-use header::terms::terms_number;
-use header::told::Told;
+use header::terms::Terms;
+use refusals::Refusal;
 
 // Whether the tray and the room are as large as the order and the length ask.
 fn lent_right(o: Order, l: usize, tray: &[u8], room: &[u8]) -> bool
@@ -14,17 +15,14 @@ fn lent_right(o: Order, l: usize, tray: &[u8], room: &[u8]) -> bool
     tray.len() == 2048 * o.n && room.len() == l
 }
 
-// The number of the first thing that forbids it: 1, 2, 3, 4; or 0 where nothing does.
-pub fn refusal(told: Told, stamp: u32, l: usize, tray: &[u8], room: &[u8]) -> u32
-    ensures { result ≡ join_refusal told stamp l tray.now room.now }
+// The first thing that forbids it.
+pub fn judge_lent(terms: Terms, tray: &[u8], room: &[u8]) -> Result<(), Refusal>
+    ensures { code_of result ≡ join_refusal terms.told terms.stamp terms.length tray.now room.now }
 {
-    let number = terms_number(told, stamp, l);
-    if number != 0 {
-        return number;
-    }
-    if lent_right(told.order, l, tray, room) {
-        0
+    terms.judge()?;
+    if lent_right(terms.told.order, terms.length, tray, room) {
+        Ok(())
     } else {
-        4
+        Err(Refusal::Room)
     }
 }

@@ -2,93 +2,62 @@
 ghost use Rattle.std.specs.Prelude.{◌≡◌, true};
 ghost use Rattle.report_text.specs.Joined.{Joinable};
 
-use files::load::front;
-use header::told::Told;
+use header::terms::Terms;
 use join::Joined;
-use lines::line::put_answer_line;
+use refusals::Refusal;
+use report_text::answer::alone;
+use report_text::has_lines;
 use report_text::joined::usable_in;
 use report_text::line::put_lines;
 use saving::save::said;
+use saying::status::Status;
 use showing::put_trials_line;
 use system::output::Stream;
 
-// Says how many trials a hunt would take.
-fn say_trials(rt: &HostRuntime, to: Stream, trials: u32) -> bool {
-    let mut out = [0u8; 128];
-    let count = put_trials_line(&mut out, trials);
-    said(rt, to, &out[..count])
-}
-
 // Says the last line of the report alone.
-pub fn say_answer(rt: &HostRuntime, to: Stream, number: u32) -> bool {
-    let mut out = [0u8; 512];
-    let end = put_answer_line(&mut out, 0, number);
-    let count = front(end, &out);
-    said(rt, to, &out[..count])
+pub fn say_answer(
+    rt: &HostRuntime,
+    to: Stream,
+    outcome: Result<(), Refusal>,
+) -> Result<(), Status> {
+    let page = alone(outcome);
+    said(rt, to, page.text.bytes())
 }
 
+// Says the lines of the keepers, and how many trials a hunt would take.
 fn say_lines(
     rt: &HostRuntime,
     to: Stream,
-    told: Told,
-    stamp: u32,
-    l: usize,
+    terms: Terms,
     joined: Joined,
     tray: &[u8],
-) -> bool
-    requires { Joinable told l tray.now }
+) -> Result<(), Status>
+    requires { Joinable terms.told terms.length tray.now }
 {
-    let trials = joined.trials;
-    let usable = usable_in(told, stamp, l, tray);
-    let mut out = [0u8; 512];
-    let end = put_lines(
-        &mut out,
-        told.order.n,
-        told.key as u32,
-        stamp,
-        l as u32,
-        usable,
-        joined,
-    );
-    let count = front(end, &out);
-    said(rt, to, &out[..count]) && say_trials(rt, to, trials)
+    let lines = put_lines(terms, usable_in(terms, tray), joined);
+    said(rt, to, lines.bytes())?;
+    said(rt, to, put_trials_line(joined.trials).bytes())
 }
 
-// Whether a number is one with which the report has a line for each keeper.
-pub fn has_group(number: u32) -> bool {
-    number == 0 || (number == 7 || number == 8)
-}
-
-// Whether what was joined can be reported keeper by keeper. Whatever gave 0, 7 or 8 can.
-fn is_joinable(told: Told, l: usize, tray: &[u8]) -> bool
-    ensures { result ≡ true → Joinable told l tray.now }
+// Whether what was joined can be reported keeper by keeper. Whatever has lines can.
+fn is_joinable(terms: Terms, tray: &[u8]) -> bool
+    ensures { result ≡ true → Joinable terms.told terms.length tray.now }
 {
-    if told.order.n > 16 {
-        return false;
-    }
-    if told.key > 255 {
-        return false;
-    }
-    if l > 952 {
-        return false;
-    }
-    tray.len() == 2048 * told.order.n
+    let n = terms.told.order.n;
+    n <= 16 && terms.told.key <= 255 && terms.length <= 952 && tray.len() == 2048 * n
 }
 
-// Says the report of a join: the lines of its keepers where it gave 0, 7 or 8, else the last line alone.
+// Says the report of a join: the lines of its keepers where it has them, else the last line alone.
 pub fn say_joined(
     rt: &HostRuntime,
     to: Stream,
-    told: Told,
-    stamp: u32,
-    l: usize,
+    terms: Terms,
     joined: Joined,
     tray: &[u8],
-) -> bool {
-    if has_group(joined.number) {
-        if is_joinable(told, l, tray) {
-            return say_lines(rt, to, told, stamp, l, joined, tray);
-        }
+) -> Result<(), Status> {
+    if has_lines(joined.outcome) && is_joinable(terms, tray) {
+        say_lines(rt, to, terms, joined, tray)
+    } else {
+        say_answer(rt, to, joined.outcome)
     }
-    say_answer(rt, to, joined.number)
 }

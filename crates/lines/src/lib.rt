@@ -1,4 +1,4 @@
-// The lines of the report, written into bytes that are lent.
+// The lines of the report, written into a text of fixed room.
 #![tactic(auto)]
 
 pub mod line;

@@ -1,8 +1,9 @@
 -- Two lists compared from the front, with every number looked at: what the numbers passed have told.
 -- Assumes nothing.
-use Rattle.std.specs.Prelude.{ℕ, ◌+◌, ◌<◌, ◌≤◌, ◌≡◌, refl, Bool, true, false, List, length, get_or}
-use Rattle.std.proofs.Common.{sym, ap, ◌∙◌, not-suc-le-zero, arith, below_more}
-use Rattle.std.proofs.lemmas.Bool.{false≢true}
+use Rattle.std.specs.Prelude.{ℕ, ◌+◌, ◌<◌, ◌≤◌, ◌≡◌, refl, Bool, true, false, ◌&&◌, List, eqb, length, get_or}
+use Rattle.std.proofs.Common.{sym, ap, ◌∙◌, not-suc-le-zero, arith, below_more, ⊎_elim, eq-eqb, ne_eqb}
+use Rattle.std.proofs.Math.Bool.{and-true, and-false}
+use Rattle.std.proofs.lemmas.Bool.{false≢true, cases_eq}
 use Rattle.lists.specs.SameBytes.{same_bytes, apart_not_same, alike_same}
 
 -- the first i are the same until two of them are not
@@ -32,6 +33,13 @@ module _ {xs ys : List ℕ} {i : ℕ} where
     alike = λ t. absurd (false≢true (sym n ∙ t));
     apart = λ t e. d (ap (λ (ws : List ℕ). get_or ws i 0) e);
   }
+
+  -- by `&=`, whether the two there are the same or not
+  pub passed_more : {same : Bool} → Passed xs ys i same → i < length xs → Passed xs ys (i + 1) (same && eqb (get_or xs i 0) (get_or ys i 0))
+  passed_more {same} p l =
+      ⊎_elim (λ e. passed_alike p l e (rw (eq-eqb _ _ e, and-true)))
+      (λ d. passed_apart p l d (rw (ne_eqb _ _ d, and-false)))
+      (cases_eq (get_or xs i 0) (get_or ys i 0))
 
   pub passed_all : (same : Bool) → Passed xs ys i same → length xs ≤ i → length xs ≡ length ys → same ≡ same_bytes xs ys
   passed_all true p l e = alike_same xs ys e (λ k h. p.alike refl k (omega arith))

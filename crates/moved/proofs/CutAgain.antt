@@ -8,15 +8,14 @@ use Rattle.algebra.specs.Field.{Ops}
 use Rattle.block.specs.AtMostLaws.{below_at_most}
 use Rattle.header.specs.HeadLaws.{equal_same_head}
 use Rattle.header.specs.TermsLaws.{lawful_terms_facts, facts_terms}
-use Rattle.format.specs.declared.reader.Reading.TheVariants.{Good}
+use Rattle.format.specs.Reading.{Good, read_of, shares_of}
 use Rattle.format.specs.GoodSlot.{good_slot}
-use Rattle.format.specs.Reading.{read_of, shares_of}
 use Rattle.shares.specs.Fills.{filled}
 use Rattle.tray.specs.Tray.{head_for, slot_of}
 use Rattle.cut.specs.Cut.{cut_tray}
 use Rattle.cut.specs.LetterField.{LetterField}
 use Rattle.cut.specs.OneCut.{OneCut, read_cut}
-use Rattle.moving.specs.declared.cutting.Cutting.{Cutting}
+use Rattle.moving.specs.Cutting.{Cutting}
 use Rattle.moving.specs.declared.terms.Move.{Move}
 use Rattle.moving.specs.Cutting.{sub_tray, cut_refusal, move_cut_number, move_cut_place, MoveCutDone}
 use Rattle.moving.specs.Move.{old_told, move_number}

@@ -11,10 +11,9 @@ use Rattle.algebra.specs.Field.{Ops}
 use Rattle.header.specs.OrderLaws.{KeeperFacts, OrderFacts, lawful_order_facts, facts_lawful_order, lawful_keeper_facts}
 use Rattle.header.specs.Passing.{passed}
 use Rattle.header.specs.ToldLaws.{lawful_told_facts}
-use Rattle.format.specs.declared.reader.Reading.TheVariants.{Good}
+use Rattle.format.specs.Reading.{Good, shares_of}
 use Rattle.format.specs.Letter.{slot_bytes, blocks_for}
 use Rattle.format.specs.LetterSizes.{blocks_facts}
-use Rattle.format.specs.Reading.{shares_of}
 use Rattle.format.specs.WrittenReads.{ReadsAs}
 use Rattle.tray.specs.Tray.{head_for, slot_of}
 use Rattle.shares.specs.Shares.{share_words}

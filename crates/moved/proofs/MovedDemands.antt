@@ -7,7 +7,7 @@ use Rattle.field.specs.Modulo.{mod257}
 use Rattle.cut.specs.Cut.{cut_tray}
 use Rattle.cut.specs.LetterField.{mod257-letters}
 use Rattle.cut.specs.OneCut.{OneCut}
-use Rattle.join.specs.declared.Joined.{Joined}
+use Rattle.join.specs.Join.{Joined}
 use Rattle.join.specs.Join.{JoinDone}
 use Rattle.demands.specs.Altered.{EnoughLeft, AtMostAltered}
 use Rattle.demands.specs.Recovery.{GivesBack}

@@ -7,16 +7,15 @@ use Rattle.lists.specs.Below.{Below}
 use Rattle.algebra.specs.Field.{Ops}
 use Rattle.header.specs.declared.head.Head.{Head}
 use Rattle.header.specs.Head.{lawful_head}
-use Rattle.format.specs.declared.reader.Reading.TheVariants.{Good}
+use Rattle.format.specs.Reading.{Good, shares_of, read_as}
 use Rattle.format.specs.Letter.{slot_bytes}
 use Rattle.format.specs.OneSlot.{FromIn, same_slot_as, same_written_as}
-use Rattle.format.specs.Reading.{shares_of, read_as}
 use Rattle.format.specs.WrittenReads.{written_reads_as}
 use Rattle.shares.specs.Fills.{unchanged, fills_same}
-use Rattle.moving.specs.declared.cutting.Cutting.{Cutting}
+use Rattle.moving.specs.Cutting.{Cutting}
 use Rattle.moving.specs.declared.terms.Move.{Move}
 use Rattle.moving.specs.Cutting.{MoveCutDone}
-use Rattle.sub_letters.specs.declared.judging.Weighing.{Weighing}
+use Rattle.sub_letters.specs.Judging.{Weighing}
 use Rattle.weighing.specs.Weighing.{weighed_letter, WeighDone}
 
 -- the cutting

@@ -23,7 +23,7 @@ use Rattle.cut.specs.LetterField.{LetterField}
 use Rattle.cut.specs.OneCut.{slot-cut}
 use Rattle.moving.specs.declared.terms.Move.{Move}
 use Rattle.moving.specs.Move.{move_number}
-use Rattle.sub_letters.specs.declared.judging.Weighing.{Weighing}
+use Rattle.sub_letters.specs.Judging.{Weighing}
 use Rattle.sub_letters.specs.Subs.{sub_head, from_at, froms_of, steady, froms_right}
 use Rattle.sub_letters.specs.Judging.{weigh_refusal, only, first_sub, fault_at, other_at, subs_answer, weigh_answer}
 use Rattle.weighing.specs.Weighing.{weighed_letter, WeighDone}

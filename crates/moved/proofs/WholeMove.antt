@@ -12,11 +12,11 @@ use Rattle.tray.specs.Tray.{slot_of}
 use Rattle.cut.specs.Cut.{cut_tray}
 use Rattle.cut.specs.LetterField.{LetterField}
 use Rattle.cut.specs.OneCut.{OneCut}
-use Rattle.moving.specs.declared.cutting.Cutting.{Cutting}
+use Rattle.moving.specs.Cutting.{Cutting}
 use Rattle.moving.specs.declared.terms.Move.{Move}
 use Rattle.moving.specs.Cutting.{MoveCutDone}
 use Rattle.moving.specs.Move.{old_told}
-use Rattle.sub_letters.specs.declared.judging.Weighing.{Weighing}
+use Rattle.sub_letters.specs.Judging.{Weighing}
 use Rattle.sub_letters.specs.Judging.{only}
 use Rattle.weighing.specs.Weighing.{WeighDone}
 use Rattle.moved.proofs.CutAgain.{cut-letter_done}

@@ -1,177 +1,162 @@
 // move-weigh --from T,F,N --order T,F,N --key K --length L --stamp S --keepers A,B,.. --keeper Y [--replace] FOLDER LETTER: the sub-letters of old keepers
 // become the letter of a new one.
-ghost use Rattle.std.specs.Prelude.{◌+◌, ◌*◌, ◌≤◌, ◌≡◌, length};
+ghost use Rattle.std.specs.Prelude.{◌*◌, ◌≤◌, ◌≡◌, length};
 
-use ending::{answered, written};
-use exports::hosts::cs_move_weigh;
-use files::load::{Got, load};
-use lines::text::put;
+use crate::move_of;
+use ending::answered;
+use files::load::{Unread, load};
 use names::slot;
 use numerals::list::list;
-use options::form::{REPLACE, has};
 use options::given::Given;
+use options::option::Opt;
+use refusals::Refusal;
 use saving::save::{is_writable, put_out};
-use saying::line::{add, add_number, four, say};
+use saying::line::Line;
+use saying::status::Status;
 use saying::{refused, trouble};
-use system::words::word as word_at;
+use std::fmt::Write;
+use sub_letters::judging::SubFault;
+use system::words::word;
+use weighing::weigh;
 
-// Puts the bytes of a file in their place, where they are as many as a sub-letter has.
-fn is_put(rt: &HostRuntime, name: &[u8], bytes: &[u8], letters: &mut [u8], at: usize) -> bool
-    requires { at + 2048 ≤ length letters.old }
-    ensures { length letters.new ≡ length letters.old }
+// Says why a file cannot be read. All sub-letters that are listed are needed, so that none counts as empty.
+fn unread(rt: &HostRuntime, name: &[u8], why: Unread) -> Status {
+    match why {
+        Unread::Missing => refused(
+            rt,
+            name,
+            b"is not there: ask this old keeper for its sub-letter",
+        ),
+        Unread::NoFile => refused(
+            rt,
+            name,
+            b"is no plain file: put the sub-letter of this old keeper in its place",
+        ),
+        Unread::Trouble(error) => trouble(rt, name, b"cannot be read", error),
+    }
+}
+
+// Reads a sub-letter from its file, which has as many bytes as one.
+fn load_file(rt: &HostRuntime, name: &[u8], letter: &mut [u8]) -> Result<(), Status>
+    requires { length letter.old ≡ 2048 }
 {
+    let mut room = [0u8; 2049];
+    let bytes = load(rt, name, true, &mut room).map_err(|why| unread(rt, name, why))?;
     if bytes.len() != 2048 {
-        refused(
+        return Err(refused(
             rt,
             name,
             b"has not the 2048 bytes of a sub-letter: ask this old keeper for it anew",
-        );
-        return false;
+        ));
     }
-    put(letters, at, bytes);
-    true
+    letter.copy_from_slice(bytes);
+    Ok(())
 }
 
-// Reads the sub-letter of an old keeper from its file. All that are listed are needed, so that none counts as empty.
-fn is_loaded(rt: &HostRuntime, folder: &[u8], keeper: u32, letters: &mut [u8], at: usize) -> bool
-    requires { at + 2048 ≤ length letters.old }
-    ensures { length letters.new ≡ length letters.old }
+// Reads the sub-letter of an old keeper.
+fn load_keeper(
+    rt: &HostRuntime,
+    folder: &[u8],
+    keeper: u32,
+    letter: &mut [u8],
+) -> Result<(), Status>
+    requires { length letter.old ≡ 2048 }
 {
-    let mut name = io::buffer();
-    let named = slot(folder, keeper, &mut name);
-    if named == 0 {
-        refused(
+    let mut room = io::buffer();
+    let Some(name) = slot(folder, keeper, &mut room) else {
+        return Err(refused(
             rt,
             folder,
             b"is too long a name for a folder of sub-letters",
-        );
-        return false;
-    }
-    let mut room = [0u8; 2049];
-    let loaded = load(rt, &name[..named], true, &mut room);
-    let count = loaded.count;
-    let got = loaded.got;
-    match got {
-        Got::Read => is_put(rt, &name[..named], &room[..count], letters, at),
-        Got::Missing => {
-            refused(
-                rt,
-                &name[..named],
-                b"is not there: ask this old keeper for its sub-letter",
-            );
-            false
-        }
-        Got::NoFile => {
-            refused(
-                rt,
-                &name[..named],
-                b"is no plain file: put the sub-letter of this old keeper in its place",
-            );
-            false
-        }
-        Got::Trouble(error) => {
-            trouble(rt, &name[..named], b"cannot be read", error);
-            false
-        }
-    }
+        ));
+    };
+    load_file(rt, name, letter)
 }
 
 // Reads the sub-letters of all old keepers that are listed, one behind the other.
-fn are_loaded(rt: &HostRuntime, folder: &[u8], keepers: &[u32], letters: &mut [u8]) -> bool
-    requires { length letters.old ≡ 2048 * length keepers.now }
-{
-    let mut k = 0;
-    while k < keepers.len() {
-        if !is_loaded(rt, folder, keepers[k], letters, 2048 * k) {
-            return false;
-        }
-        k += 1;
-    }
-    true
-}
-
-// Whether a number is of one of the sub-letters.
-fn is_of_one(number: u32) -> bool {
-    number == 16 || (number >= 9 && number <= 13)
-}
-
-// Says which sub-letter a number is of, where it is of one.
-fn say_which(rt: &HostRuntime, folder: &[u8], keepers: &[u32], letter: usize, number: u32) {
-    if !is_of_one(number) {
-        return;
-    }
-    if letter >= keepers.len() {
-        return;
-    }
-    let mut name = io::buffer();
-    let named = slot(folder, keepers[letter], &mut name);
-    let mut out = [0u8; 8192];
-    let next = four(&mut out, b"csalgodes: ", &name[..named], b": number ", b"");
-    let numbered = add_number(&mut out, next, number);
-    let count = add(&mut out, numbered, b" is of this sub-letter");
-    say(rt, &mut out, count);
-}
-
-fn weigh(
+fn load_all(
     rt: &HostRuntime,
-    g: Given,
     folder: &[u8],
     keepers: &[u32],
-    letters: &[u8],
-    out: &[u8],
-) -> i32 {
-    let mut new = [0u8; 2048];
-    let weighed = cs_move_weigh(
-        g.old_t, g.old_f, g.old_n, g.t, g.f, g.n, g.key, g.length, g.stamp, keepers, g.keeper,
-        letters, &mut new,
-    );
-    if weighed.number != 0 {
-        say_which(rt, folder, keepers, weighed.letter as usize, weighed.number);
-        return answered(rt, weighed.number, weighed.place);
-    }
-    written(put_out(rt, out, &new, has(g.seen, REPLACE)))
-}
-
-fn load_and_weigh(
-    rt: &HostRuntime,
-    g: Given,
-    keepers: &[u32],
     letters: &mut [u8],
-    out: &[u8],
-) -> i32
+) -> Result<(), Status>
     requires { length letters.old ≡ 2048 * length keepers.now }
 {
-    let mut folder = io::buffer();
-    let count = word_at(rt, g.first, &mut folder).count;
-    if are_loaded(rt, &folder[..count], keepers, letters) {
-        return weigh(rt, g, &folder[..count], keepers, letters, out);
+    for (keeper, letter) in keepers.iter().zip(letters.chunks_exact_mut(2048)) {
+        load_keeper(rt, folder, *keeper, letter)?;
     }
-    100
+    Ok(())
 }
 
-// Eight old keepers are the most that a move takes.
-fn weigh_listed(rt: &HostRuntime, g: Given, keepers: &[u32], out: &[u8]) -> i32
+// Whether a refusal is of one of the sub-letters.
+fn is_of_one(refusal: Refusal) -> bool {
+    matches!(
+        refusal,
+        Refusal::NotOurs
+            | Refusal::LargeWord
+            | Refusal::Check
+            | Refusal::Mark
+            | Refusal::Header
+            | Refusal::Tail
+    )
+}
+
+// Says which sub-letter is refused, where it is one.
+fn say_which(rt: &HostRuntime, folder: &[u8], keepers: &[u32], fault: SubFault) {
+    let Some(keeper) = keepers.get(fault.letter) else {
+        return;
+    };
+    let mut room = io::buffer();
+    let name = slot(folder, *keeper, &mut room).unwrap_or(&[]);
+    let mut line = Line::new();
+    line.add(name);
+    let number = fault.refusal.number();
+    let _ = write!(line, ": number {number} is of this sub-letter");
+    line.say(rt);
+}
+
+// Says why a weighing is refused.
+fn answered_of(rt: &HostRuntime, folder: &[u8], keepers: &[u32], fault: SubFault) -> Status {
+    if is_of_one(fault.refusal) {
+        say_which(rt, folder, keepers, fault);
+    }
+    answered(rt, fault.refusal.number(), fault.place)
+}
+
+// Weighs the sub-letters of the old keepers that are listed, eight at the most.
+fn weigh_listed(rt: &HostRuntime, g: &Given, keepers: &[u32], out: &[u8]) -> Result<(), Status>
     requires { length keepers.now ≤ 8 }
 {
-    let size = 2048 * keepers.len();
-    let mut letters = [0u8; 16384];
-    load_and_weigh(rt, g, keepers, &mut letters[..size], out)
+    let mut name = io::buffer();
+    let folder = g.first_name(rt, &mut name);
+    let mut room = [0u8; 16384];
+    let letters = &mut room[..2048 * keepers.len()];
+    load_all(rt, folder, keepers, letters)?;
+    let mut new = [0u8; 2048];
+    weigh(move_of(g), keepers, g.keeper, letters, &mut new).map_err(|fault| answered_of(
+        rt, folder, keepers, fault,
+    ))?;
+    put_out(rt, out, &new, g.has(Opt::Replace))
 }
 
-// The list of old keepers is read again: it was found to be one when the words were read.
-fn weigh_to(rt: &HostRuntime, g: Given, out: &[u8]) -> i32 {
-    let mut word = io::buffer();
-    let size = word_at(rt, g.keepers, &mut word).count;
-    let mut keepers = [0u32; 8];
-    let count = list(&word[..size], &mut keepers);
-    weigh_listed(rt, g, &keepers[..count], out)
-}
-
-pub fn run(rt: &HostRuntime, g: Given) -> i32 {
-    let mut out = io::buffer();
-    let named = word_at(rt, g.second, &mut out).count;
-    if !is_writable(rt, &out[..named], has(g.seen, REPLACE)) {
-        return 100;
+// The list of old keepers, read again: it was found to be one when the words were read.
+fn listed<'a>(rt: &HostRuntime, g: &Given, room: &'a mut [u32; 8]) -> &'a [u32]
+    ensures { length result.now ≤ 8 }
+{
+    let mut name = io::buffer();
+    let Some(word) = g.keepers.and_then(|at| word(rt, at, &mut name)) else {
+        return &[];
+    };
+    match list(word, room) {
+        Some(count) => &room[..count],
+        None => &[],
     }
-    weigh_to(rt, g, &out[..named])
+}
+
+pub fn run(rt: &HostRuntime, g: &Given) -> Result<(), Status> {
+    let mut name = io::buffer();
+    let out = g.second_name(rt, &mut name);
+    is_writable(rt, out, g.has(Opt::Replace))?;
+    let mut room = [0u32; 8];
+    weigh_listed(rt, g, listed(rt, g, &mut room), out)
 }

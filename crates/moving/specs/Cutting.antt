@@ -1,23 +1,22 @@
 -- The cutting of a letter into sub-letters.
 -- Assumes nothing.
-use Rattle.std.specs.Prelude.{ℕ, suc, ◌≡◌, Bool, cond, ◌&&◌, List, eqb, ltb, length}
+use Rattle.std.specs.Prelude.{ℕ, suc, ◌≡◌, Bool, cond, ◌&&◌, List, Result, Ok, Err, eqb, ltb, length}
 use Rattle.lists.specs.Pieces.{pieces}
 use Rattle.algebra.specs.Field.{Ops}
 use Rattle.block.specs.Check.{all_at_most}
+use Rattle.refusals.specs.Numbers.{code}
 use Rattle.header.specs.declared.told.Told.{Told}
 use Rattle.header.specs.declared.head.Head.{Head}
 use Rattle.header.specs.FirstOf.{first_of}
 use Rattle.header.specs.Head.{same_head}
 use Rattle.header.specs.Order.{lawful_keeper}
-use Rattle.format.specs.declared.reader.Reading.{Reading}
-use Rattle.format.specs.declared.reader.Reading.TheVariants.{Good, Bad}
+use Rattle.format.specs.declared.reader.Fault.{Fault}
+use Rattle.format.specs.Reading.{Reading, Good, Bad, read_of, shares_of, place_of}
 use Rattle.format.specs.Letter.{slot_bytes}
-use Rattle.format.specs.Reading.{read_of, shares_of, place_of}
 use Rattle.tray.specs.Tray.{head_for}
 use Rattle.shares.specs.Fills.{Fills}
 use Rattle.shares.specs.Lent.{lent_right}
 use Rattle.shares.specs.Shares.{share_words}
-use Rattle.moving.specs.declared.cutting.Cutting.{Cutting}
 use Rattle.moving.specs.declared.terms.Move.{Move}
 use Rattle.moving.specs.Move.{old_told, move_number}
 
@@ -58,6 +57,16 @@ move_cut_number m keeper letter random tray = first_of (cut_refusal m keeper let
 -- the place of a fault in the letter; 0 where the letter is not looked at
 unfoldable pub move_cut_place : Move → ℕ → List ℕ → List ℕ → List ℕ → ℕ
 move_cut_place m keeper letter random tray = cond (eqb (cut_refusal m keeper letter random tray) 0) (place_of (read_of letter)) 0
+
+-- what a cutting answers, in the page's numbers: one, and the place of a fault in the letter
+pub record Cutting : Type 0 where
+  pub number : ℕ
+  pub place : ℕ
+
+-- 0 and 0 where nothing is refused
+abbrev pub cutting_of : Result Unit Fault → Cutting
+cutting_of (Ok done) = record { number = 0; place = 0 }
+cutting_of (Err fault) = record { number = code fault.refusal; place = fault.place }
 
 -- what a cutting answers and leaves: its number and place, and the tray, which only 0 changes
 pub record MoveCutDone (O : Ops) (m : Move) (keeper : ℕ) (letter random tray : List ℕ) (answer : Cutting) (left : List ℕ) : Type 0 where

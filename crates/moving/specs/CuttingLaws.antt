@@ -14,18 +14,16 @@ use Rattle.header.specs.HeadLaws.{facts_lawful_head, same_head_equal}
 use Rattle.header.specs.Order.{lawful_keeper}
 use Rattle.header.specs.OrderLaws.{KeeperFacts, lawful_keeper_facts}
 use Rattle.header.specs.Passing.{passed, passing}
-use Rattle.format.specs.declared.reader.Reading.{Reading}
-use Rattle.format.specs.declared.reader.Reading.TheVariants.{Good, Bad}
+use Rattle.format.specs.Reading.{Reading, Good, Bad, read_of, shares_of, place_of}
 use Rattle.format.specs.Letter.{slot_bytes}
 use Rattle.format.specs.GoodWritten.{good_shares}
-use Rattle.format.specs.Reading.{read_of, shares_of, place_of}
 use Rattle.format.specs.ReadingBounds.{FaultsIn, fault_facts}
 use Rattle.tray.specs.Tray.{head_for}
 use Rattle.shares.specs.Fills.{fills, refuses}
 use Rattle.shares.specs.Laying.{part_is}
 use Rattle.shares.specs.Words.{share_rows, row_of, words_number}
 use Rattle.shares.specs.WordsLaws.{words_accepted, row_shares}
-use Rattle.moving.specs.declared.cutting.Cutting.{Cutting}
+use Rattle.moving.specs.Cutting.{Cutting}
 use Rattle.moving.specs.declared.terms.Move.{Move}
 use Rattle.moving.specs.Cutting.{sub_letter, sub_tray, cut_lent, cut_refusal, old_letter, move_cut_number, move_cut_place, MoveCutDone}
 use Rattle.moving.specs.Lent.{MoveTerms}

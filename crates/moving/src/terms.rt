@@ -1,14 +1,15 @@
 // What both calls of a move are told.
 ghost use Rattle.std.specs.Prelude.{◌≡◌};
+ghost use Rattle.refusals.specs.Numbers.{code_of};
 ghost use Rattle.moving.specs.Move.{old_told, move_number};
 
-use header::order;
 use header::order::Order;
-use header::terms::terms_number;
+use header::terms::Terms;
 use header::told::Told;
+use refusals::Refusal;
 
 // The old order; the new order and the key; the new stamp; how many bytes the key has.
-#[derive(Clone, Copy)]
+#[derive(Clone, Copy, Debug, PartialEq, Eq)]
 pub struct Move {
     pub old: Order,
     pub told: Told,
@@ -16,28 +17,36 @@ pub struct Move {
     pub length: usize,
 }
 
-// What the old letters are of.
-pub fn old_told(m: Move) -> Told
-    ensures { result ≡ old_told m }
-{
-    let order = m.old;
-    let told = m.told;
-    Told {
-        order,
-        key: told.key,
+impl Move {
+    // What the old letters are of.
+    pub fn old_told(self) -> Told
+        ensures { result ≡ old_told self }
+    {
+        Told {
+            order: self.old,
+            key: self.told.key,
+        }
     }
-}
 
-// 1, 2 or 3 of what is told, where `keepers` says whether the keepers told of are in their orders; else 0.
-pub fn move_number(m: Move, keepers: bool) -> u32
-    ensures { result ≡ move_number m keepers }
-{
-    if !order::lawful(m.old) {
-        return 1;
+    // What the new letters are cut under.
+    pub fn terms(self) -> Terms
+        ensures { result ≡ record { told = self.told; stamp = self.stamp; length = self.length } }
+    {
+        Terms {
+            told: self.told,
+            stamp: self.stamp,
+            length: self.length,
+        }
     }
-    if keepers {
-        terms_number(m.told, m.stamp, m.length)
-    } else {
-        1
+
+    // The first of what is told that is not lawful, where `keepers` says whether the keepers told of are in their orders.
+    #[tactic(auto, unfolding(crate::specs::Move::move_number))]
+    pub fn judge(self, keepers: bool) -> Result<(), Refusal>
+        ensures { code_of result ≡ move_number self keepers }
+    {
+        if !self.old.is_lawful() || !keepers {
+            return Err(Refusal::NotLawful);
+        }
+        self.terms().judge()
     }
 }

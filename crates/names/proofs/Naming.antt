@@ -1,30 +1,16 @@
--- What is written from the start of a room on stands there as it is, and is a name where it is no longer than one can be.
+-- What is laid over zeros has zeros behind it.
 -- Assumes nothing.
-use Rattle.std.proofs.Common.{ℕ, ◌+◌, ◌-◌, ◌<◌, ◌≤◌, ◌≡◌, refl, ◌∙◌, List, zero-add, arith, length, get_or, take, drop, replicate, get_or-drop}
+use Rattle.std.proofs.Common.{ℕ, ◌+◌, ◌-◌, ◌≤◌, ◌≡◌, ◌∙◌, List, ◌++◌, arith, length, get_or, drop, replicate, get_or-drop}
 use Rattle.std.proofs.lemmas.List.{get_or-replicate}
 use Rattle.std.proofs.Math.Seq.{take-append_seam, drop-append_seam}
-use Rattle.lines.specs.Written.{Written}
 use Rattle.lists.specs.Zeros.{drop_zeros}
-use Rattle.names.specs.Names.{Named, Closed}
+use Rattle.names.specs.Names.{Closed}
 
-pub written_taken : {before whole out : List ℕ} {count : ℕ} → Written before 0 whole out count → take count out ≡ whole
-written_taken {before} {whole} {out} {count} w =
-    let e : count ≡ length whole = omega arith in
-    rw (e, w.laid) (take-append_seam whole (drop (0 + length whole) before))
-
-pub written_named : {before whole out : List ℕ} {count : ℕ} → length whole ≤ 4095 → Written before 0 whole out count → Named whole out count
-written_named short w = record { fits = λ _. (omega arith, written_taken w); long = λ long. omega arith }
-
-pub long_named : {whole : List ℕ} (out : List ℕ) → 4095 < length whole → Named whole out 0
-long_named out long = record { fits = λ short. absurd (omega arith); long = λ _. refl }
-
--- laid over zeros it has zeros behind it
-pub written_closed : {whole out : List ℕ} {count : ℕ} → Written (replicate 4096 0) 0 whole out count → length whole ≤ 4095 → Closed whole out
-written_closed {whole} {out} w short =
-    let rest = drop {A = ℕ} (0 + length whole) (replicate 4096 0) in
-    let zeros : rest ≡ replicate (4096 - length whole) 0 = rw zero-add (drop_zeros (length whole) 4096) in
+pub laid_closed : {whole out : List ℕ} → out ≡ whole ++ drop (length whole) (replicate 4096 0) → length whole ≤ 4095 → Closed whole out
+laid_closed {whole} {out} laid short =
+    let rest = drop {A = ℕ} (length whole) (replicate 4096 0) in
     record {
-      fits = λ _. (rw w.laid (take-append_seam whole rest), rw w.laid (drop-append_seam whole rest ∙ zeros));
+      fits = λ _. (rw laid (take-append_seam whole rest), rw laid (drop-append_seam whole rest ∙ drop_zeros (length whole) 4096));
       long = λ long. absurd (omega arith);
     }
 

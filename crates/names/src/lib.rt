@@ -1,81 +1,79 @@
 // Names of files, as bytes: what is put behind a name, the slots of a tray, the folder that a name stands in.
 #![tactic(auto)]
 
-ghost use Rattle.std.specs.Prelude.{◌≡◌, ◌++◌, take};
-ghost use Rattle.io.specs.Counts.{IsPrefixLen};
+ghost use Rattle.std.specs.Prelude.{◌≡◌, ◌++◌, ◌≤◌, length, take, drop};
 ghost use Rattle.lines.specs.Text.{decimal, text};
-ghost use Rattle.names.specs.Names.{Named, Ended, Closed};
+ghost use Rattle.names.specs.Names.{NamedBy, Ended, Closed};
 
-use lines::text::{put, put_decimal};
+use lines::text::Text;
 
 // How many bytes a name has at most, with the 0 at its end.
 pub const PATH_MAX: usize = 4096;
 
 const LAST: usize = PATH_MAX - 1;
 
-// A name with something behind it, and how long that is: 0 where it is longer than a name can be.
-pub fn with(name: &[u8], behind: &[u8], out: &mut [u8; PATH_MAX]) -> usize
-    ensures prefix_len { IsPrefixLen result out.new }
-    ensures named { Named (name.now ++ behind.now) out.new result }
+// Puts bytes at the start of a room.
+fn put(out: &mut [u8], bytes: &[u8])
+    requires { length bytes.now ≤ length out.old }
+    ensures { out.new ≡ bytes.now ++ drop (length bytes.now) out.old }
 {
-    if name.len() > LAST {
-        return 0;
+    out[..bytes.len()].copy_from_slice(bytes);
+}
+
+// A name with something behind it; none where it is longer than a name can be.
+pub fn with<'a>(name: &[u8], behind: &[u8], out: &'a mut [u8; PATH_MAX]) -> Option<&'a [u8]>
+    ensures { NamedBy (name.now ++ behind.now) result }
+{
+    if name.len() > LAST || behind.len() > LAST - name.len() {
+        return None;
     }
-    if behind.len() > LAST - name.len() {
-        return 0;
-    }
-    let next = put(out, 0, name);
-    put(out, next, behind)
+    let end = name.len() + behind.len();
+    let room = &mut out[..];
+    room[..name.len()].copy_from_slice(name);
+    room[name.len()..end].copy_from_slice(behind);
+    Some(&out[..end])
 }
 
 // What stands behind a tray in the name of a keeper's slot, as "/3".
-fn behind_tray(keeper: u32, out: &mut [u8; 16]) -> usize
-    ensures prefix_len { IsPrefixLen result out.new }
-    ensures out_after { take result out.new ≡ text "/" ++ decimal keeper }
+fn behind_tray(keeper: u32) -> Text<16>
+    ensures { result ≡ text "/" ++ decimal keeper }
 {
-    let next = put(out, 0, b"/");
-    put_decimal(out, next, keeper)
+    let mut behind = Text::<16>::new();
+    behind.put(b"/");
+    behind.put_decimal(keeper);
+    behind
 }
 
 // The name of a keeper's slot in a tray, as "tray/3".
-pub fn slot(tray: &[u8], keeper: u32, out: &mut [u8; PATH_MAX]) -> usize
-    ensures prefix_len { IsPrefixLen result out.new }
-    ensures named { Named (tray.now ++ (text "/" ++ decimal keeper)) out.new result }
+pub fn slot<'a>(tray: &[u8], keeper: u32, out: &'a mut [u8; PATH_MAX]) -> Option<&'a [u8]>
+    ensures { NamedBy (tray.now ++ (text "/" ++ decimal keeper)) result }
 {
-    let mut behind = [0u8; 16];
-    let end = behind_tray(keeper, &mut behind);
-    with(tray, &behind[..end], out)
+    with(tray, behind_tray(keeper).bytes(), out)
 }
 
-// How many bytes of a name are its folder, the last '/' among them: 0 where it has none.
-pub fn folder(name: &[u8]) -> usize
-    ensures { IsPrefixLen result name.now }
+// The folder of a name, the last '/' at its end: nothing where it has none.
+pub fn folder(name: &[u8]) -> &[u8]
+    ensures { result.now ≡ take (length result.now) name.now }
 {
-    let mut end = name.len();
-    while end > 0 {
-        if name[end - 1] == 47 {
-            return end;
-        }
-        end -= 1;
+    match name.iter().rposition(|&byte| byte == b'/') {
+        Some(last) => &name[..last + 1],
+        None => &name[..0],
     }
-    0
 }
 
-// How many bytes a name has without the '/' at its end. One '/' alone stays.
-pub fn trimmed(name: &[u8]) -> usize
-    ensures { IsPrefixLen result name.now }
+// A name without the '/' at its end. One '/' alone stays.
+pub fn trimmed(name: &[u8]) -> &[u8]
+    ensures { result.now ≡ take (length result.now) name.now }
 {
-    let mut end = name.len();
-    while end > 1 {
-        if name[end - 1] != 47 {
-            return end;
-        }
-        end -= 1;
+    let mut rest = name;
+    while rest.len() > 1 && rest[rest.len() - 1] == b'/' {
+        rest = &rest[..rest.len() - 1];
     }
-    end
+    rest
 }
 
 // A name as C takes it, with a 0 at its end. One that is too long gives an empty name, which no file has.
+// It stays for its promise, `Closed`: the library makes such names of its own.
 pub fn ended(name: &[u8]) -> [u8; PATH_MAX]
     ensures ended { Ended result }
     ensures closed { Closed name.now result }
@@ -84,6 +82,6 @@ pub fn ended(name: &[u8]) -> [u8; PATH_MAX]
     if name.len() > LAST {
         return out;
     }
-    put(&mut out, 0, name);
+    put(&mut out, name);
     out
 }

@@ -1,7 +1,6 @@
 -- A word as a number, in decimal.
 -- Assumes nothing.
-use Rattle.std.specs.Prelude.{ℕ, ◌+◌, ◌*◌, ◌-◌, ◌≡◌, Bool, true, ◌&&◌, cond, List, [], ◌∷◌, leb, length}
-use Rattle.numerals.specs.declared.read.Number.{Number}
+use Rattle.std.specs.Prelude.{ℕ, ◌+◌, ◌*◌, ◌-◌, ◌≡◌, Bool, true, ◌&&◌, cond, List, [], ◌∷◌, leb, length, Option, Some, None}
 
 -- whether a byte is one of 0 .. 9
 abbrev pub digit : ℕ → Bool
@@ -26,6 +25,5 @@ abbrev pub is_number : List ℕ → Bool
 is_number word = (leb 1 (length word) && leb (length word) 10) && (all_digits word && leb (said word) 4294967295)
 
 -- a word is read as its number, or as none
-pub record NumberRead (word : List ℕ) (r : Number) : Type 0 where
-  pub right : r.right ≡ is_number word
-  pub value : r.value ≡ cond (is_number word) (said word) 0
+pub record NumberRead (word : List ℕ) (r : Option ℕ) : Type 0 where
+  pub read : r ≡ cond (is_number word) (Some (said word)) None

@@ -1,7 +1,8 @@
 -- A word read as a number, digit by digit: what the digits passed have told.
 -- Assumes nothing.
-use Rattle.std.specs.Prelude.{ℕ, ◌+◌, ◌*◌, ◌-◌, ◌^◌, ◌<◌, ◌≤◌, ◌≡◌, refl, true, false, ◌&&◌, List, leb, length, get_or, drop}
-use Rattle.std.proofs.Common.{sym, ◌∙◌, arith, le-leb, leb-true}
+use Rattle.std.specs.Prelude.{ℕ, ◌+◌, ◌*◌, ◌-◌, ◌^◌, ◌<◌, ◌≤◌, ◌≡◌, refl, true, false, ◌&&◌, List, leb, length, get_or, drop, Some, None, Result, Ok, Err}
+use Rattle.std.specs.Result.{OkIff, result_ok}
+use Rattle.std.proofs.Common.{◌∙◌, arith, le-leb, leb-true}
 use Rattle.std.proofs.Math.Bool.{and-false, and-eq-true_iff}
 use Rattle.std.proofs.Math.Nat.{pow-le-pow_right}
 use Rattle.std.proofs.Math.Numerals.{add-one}
@@ -9,7 +10,16 @@ use Rattle.std.proofs.Math.ListN.{drop_of_length-le}
 use Rattle.std.proofs.Math.Seq.{drop-cons}
 use Rattle.std.proofs.lemmas.Bool.{lt-leb}
 use Rattle.numerals.specs.Numeral.{digit, all_digits, said_after, said, is_number, NumberRead}
-use Rattle.numerals.specs.declared.read.Number.{Number}
+
+-- how long a word is that is a number
+pub length_wrong : (word : List ℕ) → (leb 1 (length word) && leb (length word) 10) ≡ false → is_number word ≡ false
+length_wrong word e = rw e
+
+pub length_right : (count : ℕ) → (leb 1 count && leb count 10) ≡ true → count ≤ 10
+length_right count e = leb-true count 10 ((and-eq-true_iff (leb 1 count) (leb count 10)).0 e).1
+
+pub read_none : {word : List ℕ} → is_number word ≡ false → NumberRead word None
+read_none e = record { read = rw e }
 
 -- the first i bytes are digits, and say the value
 pub record Reading (word : List ℕ) (i value : ℕ) : Type 0 where
@@ -61,18 +71,14 @@ module _ {word : List ℕ} {i value : ℕ} (h : Reading word i value) where
   pub reading_large : length word ≤ i → 4294967295 < value → is_number word ≡ false
   reading_large l g = rw (all_digits_lem l, all_said l, lt-leb value 4294967295 g, and-false)
 
-  pub reading_right : length word ≤ i → (leb 1 (length word) && leb (length word) 10) ≡ true → value ≤ 4294967295 → is_number word ≡ true
-  reading_right l fits g = rw (fits, all_digits_lem l, all_said l, le-leb value 4294967295 g)
+  pub reading_right : length word ≤ i → (1 ≤ length word) × (length word ≤ 10) → value ≤ 4294967295 → is_number word ≡ true
+  reading_right l fits g = rw (le-leb 1 (length word) fits.0, le-leb (length word) 10 fits.1, all_digits_lem l, all_said l, le-leb value 4294967295 g)
 
-  pub read_some : length word ≤ i → is_number word ≡ true → NumberRead word (record { right = true; value = value })
-  read_some l e = record { right = sym e; value = rw (e, all_said l) }
+  pub read_some : length word ≤ i → is_number word ≡ true → NumberRead word (Some value)
+  read_some l e = record { read = rw (e, all_said l) }
 
-pub read_none : {word : List ℕ} {r : Number} → is_number word ≡ false → r ≡ record { right = false; value = 0 } → NumberRead word r
-read_none e w = record { right = rw (w, e); value = rw (w, e) }
-
--- a word that is too short or too long is none
-pub length_wrong : (word : List ℕ) → (leb 1 (length word) && leb (length word) 10) ≡ false → is_number word ≡ false
-length_wrong word e = rw e
-
-pub length_right : (count : ℕ) → (leb 1 count && leb count 10) ≡ true → count ≤ 10
-length_right count e = leb-true count 10 ((and-eq-true_iff (leb 1 count) (leb count 10)).0 e).1
+  -- and either of them, as it fits in 32 bits
+  pub read_fitting : {E : Type 0} (r : Result ℕ E) → length word ≤ i → (1 ≤ length word) × (length word ≤ 10) → OkIff r (value < 4294967296) value
+      → NumberRead word (result_ok r)
+  read_fitting (Ok x) l fits ok = rw ok.1 (read_some l (reading_right l fits (omega (arith, ok.0))))
+  read_fitting (Err x) l fits large = read_none (reading_large l (omega (arith, large)))

@@ -1,6 +1,6 @@
 -- An order as one word: three numbers with commas between them, as 2,1,8.
 -- Assumes nothing.
-use Rattle.std.specs.Prelude.{ℕ, ◌≡◌, true, false, List, ◌∷◌, ◌++◌}
+use Rattle.std.specs.Prelude.{ℕ, ◌≡◌, true, List, ◌∷◌, ◌++◌, Option, Some, None}
 use Rattle.numerals.specs.Numeral.{said, is_number}
 use Rattle.numerals.specs.declared.order.OrderWord.{OrderWord}
 
@@ -18,7 +18,7 @@ pub record OrderSaid (word : List ℕ) (t f n : ℕ) : Type 0 where
   pub second : Says b f
   pub third : Says c n
 
--- where a word is read as right it is an order, of these three; where it is not, it is none
-pub record OrderRead (word : List ℕ) (r : OrderWord) : Type 0 where
-  pub some : r.right ≡ true → OrderSaid word r.t r.f r.n
-  pub none : r.right ≡ false → (t f n : ℕ) → OrderSaid word t f n → ⊥
+-- where a word is read as three numbers it is an order, of these; where it is read as none, it is none
+pub record OrderRead (word : List ℕ) (r : Option OrderWord) : Type 0 where
+  pub some : (o : OrderWord) → r ≡ Some o → OrderSaid word o.t o.f o.n
+  pub none : r ≡ None → (t f n : ℕ) → OrderSaid word t f n → ⊥

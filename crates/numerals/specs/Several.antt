@@ -1,6 +1,6 @@
 -- Several numbers as one word, with commas between them, as 1,3,4.
 -- Assumes nothing.
-use Rattle.std.specs.Prelude.{ℕ, ◌≤◌, ◌≡◌, Bool, true, ◌&&◌, cond, List, [], ◌∷◌, map, eqb, leb, length, take}
+use Rattle.std.specs.Prelude.{ℕ, ◌≤◌, ◌≡◌, Bool, true, ◌&&◌, cond, List, [], ◌∷◌, map, eqb, leb, length, take, Option, Some, None, unwrap_or}
 use Rattle.numerals.specs.Numeral.{said, is_number}
 
 -- a byte put before the first of some parts
@@ -28,8 +28,8 @@ listed word = map said (parts word)
 
 -- A word is read as its numbers, which stand at the room's start, or as none. The last two parts say that the room has them: for whoever lends that start
 -- alone.
-pub record ListRead (word : List ℕ) (most : ℕ) (room : List ℕ) (count : ℕ) : Type 0 where
-  pub many : count ≡ cond (is_list most word) (length (parts word)) 0
-  pub values : take count room ≡ cond (is_list most word) (listed word) []
-  pub within : count ≤ length room
-  pub front : count ≡ length (take count room)
+pub record ListRead (word : List ℕ) (most : ℕ) (room : List ℕ) (r : Option ℕ) : Type 0 where
+  pub many : r ≡ cond (is_list most word) (Some (length (parts word))) None
+  pub values : take (unwrap_or r 0) room ≡ cond (is_list most word) (listed word) []
+  pub within : unwrap_or r 0 ≤ length room
+  pub front : unwrap_or r 0 ≡ length (take (unwrap_or r 0) room)

@@ -1,65 +1,24 @@
 // Words as numbers: decimal digits; an order as three of them with commas between, and a list of them likewise.
 #![tactic(auto)]
 
-ghost use Rattle.std.specs.Prelude.{◌≡◌, false, ◌&&◌, leb};
 ghost use Rattle.numerals.specs.Numeral.{NumberRead};
-
-use crate::read::Number;
 
 pub mod list;
 pub mod order;
-pub mod read;
-
-pub(crate) fn both(a: bool, b: bool) -> bool
-    ensures { result ≡ (a && b) }
-{
-    a && b
-}
-
-// Whether a number lies between two.
-fn between(least: u64, n: u64, most: u64) -> bool
-    ensures { result ≡ (leb least n && leb n most) }
-{
-    both(least <= n, n <= most)
-}
-
-fn wide(byte: u8) -> u64
-    ensures { result ≡ byte }
-{
-    byte as u64
-}
-
-fn wrong() -> Number
-    ensures { result ≡ record { right = false; value = 0 } }
-{
-    Number {
-        right: false,
-        value: 0,
-    }
-}
 
 // The number that the digits of a word say. A word of more than ten digits is none.
-pub fn number(word: &[u8]) -> Number
+pub fn number(word: &[u8]) -> Option<u32>
     ensures { NumberRead word.now result }
 {
-    if !between(1, word.len() as u64, 10) {
-        return wrong();
+    if !(1..=10).contains(&word.len()) {
+        return None;
     }
     let mut value: u64 = 0;
-    let mut i = 0;
-    while i < word.len() {
-        let byte = wide(word[i]);
-        if !between(48, byte, 57) {
-            return wrong();
+    for byte in word {
+        if !byte.is_ascii_digit() {
+            return None;
         }
-        value = value * 10 + (byte - 48);
-        i += 1;
+        value = value * 10 + u64::from(*byte - b'0');
     }
-    if value > 4294967295 {
-        return wrong();
-    }
-    Number {
-        right: true,
-        value: value as u32,
-    }
+    u32::try_from(value).ok()
 }

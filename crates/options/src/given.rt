@@ -1,71 +1,72 @@
 // What the words say.
+ghost use Rattle.std.specs.Prelude.{◌<◌, ◌^◌};
+
+use crate::option::{Opt, Opts};
+use header::order::Order;
+use header::terms::Terms;
+use header::told::Told;
+use system::words::word;
+
 #[derive(Clone, Copy)]
 pub struct Given {
-    // no word was wrong so far
-    pub right: bool,
-    // --help was among them
-    pub help: bool,
-    // -- was: all that follows are names
-    pub names_only: bool,
-    // the options given, as bits
-    pub seen: u32,
-    pub t: u32,
-    pub f: u32,
-    pub n: u32,
+    // the options given
+    pub seen: Opts,
+    // the order and the key, the stamp and the length; 0 where they are not told
+    pub terms: Terms,
     // the order from which a key is moved
-    pub old_t: u32,
-    pub old_f: u32,
-    pub old_n: u32,
-    pub key: u32,
-    pub stamp: u32,
-    pub keeper: u32,
-    pub length: u32,
-    // which word lists the old keepers, or 0
-    pub keepers: usize,
-    // how many names there were, and which words the first two are
-    pub names: u32,
-    pub first: usize,
-    pub second: usize,
-    // the word to read next
-    pub next: usize,
+    pub old: Order,
+    pub keeper: usize,
+    // which word lists the old keepers
+    pub keepers: Option<usize>,
+    // which words are names
+    pub first: Option<usize>,
+    pub second: Option<usize>,
+    ghost key_small: { terms.told.key < 2 ^ 32 },
 }
 
-// Before any word is read. The words 0 and 1 are the program and the command.
-pub fn none() -> Given {
-    Given {
-        right: true,
-        help: false,
-        names_only: false,
-        seen: 0,
-        t: 0,
-        f: 0,
-        n: 0,
-        old_t: 0,
-        old_f: 0,
-        old_n: 0,
-        key: 0,
-        stamp: 0,
-        keeper: 0,
-        length: 0,
-        keepers: 0,
-        names: 0,
-        first: 0,
-        second: 0,
-        next: 2,
+// The order before one is told, which is not lawful.
+const UNTOLD: Order = Order { t: 0, f: 0, n: 0 };
+
+impl Given {
+    // Before any word is read.
+    pub fn new() -> Given {
+        let told = Told {
+            order: UNTOLD,
+            key: 0,
+        };
+        Given {
+            seen: Opts::default(),
+            terms: Terms {
+                told,
+                stamp: 0,
+                length: 0,
+            },
+            old: UNTOLD,
+            keeper: 0,
+            keepers: None,
+            first: None,
+            second: None,
+        }
+    }
+
+    pub fn has(&self, option: Opt) -> bool {
+        self.seen.has(option)
+    }
+
+    // The first name, put into a room.
+    pub fn first_name<'a>(&self, rt: &HostRuntime, room: &'a mut [u8]) -> &'a [u8] {
+        named(rt, self.first, room)
+    }
+
+    pub fn second_name<'a>(&self, rt: &HostRuntime, room: &'a mut [u8]) -> &'a [u8] {
+        named(rt, self.second, room)
     }
 }
 
-// The same, with a word that is wrong.
-pub fn with_wrong(g: Given) -> Given {
-    let mut w = g;
-    w.right = false;
-    w
-}
-
-// The same, with the next word taken.
-pub fn with_taken(g: Given) -> Given {
-    let mut w = g;
-    let next = g.next;
-    w.next = if next < 4294967295 { next + 1 } else { next };
-    w
+// The word at a place; where there is none, an empty one, which names no file.
+fn named<'a>(rt: &HostRuntime, at: Option<usize>, room: &'a mut [u8]) -> &'a [u8] {
+    match at {
+        Some(at) => word(rt, at, room).unwrap_or(&[]),
+        None => &[],
+    }
 }

@@ -15,7 +15,6 @@ use Rattle.pick.specs.Ranks.{rank_said, rank_at, RanksOf}
 
 -- the ranks of the first k keepers are gathered
 pub record GatheredTo (told : Told) (tray ranks₀ ranks : List ℕ) (k : ℕ) : Type 0 where
-  pub reached : k ≤ told.order.n
   pub size : length ranks ≡ length ranks₀
   pub at : (j : ℕ) → j < k → get_or ranks j 0 ≡ rank_at told tray j
 
@@ -28,7 +27,6 @@ module _ {told : Told} {tray ranks₀ : List ℕ} where
         → rank ≡ rank_said told (k + 1) (head_of (block_words slot 0)) → GatheredTo told tray ranks₀ (set ranks k rank) (k + 1)
     unfolding rank_at
     gathered_next {slot} {rank} within room here read = record {
-      reached = omega arith;
       size = length-set ranks k rank ∙ before.size;
       at =
           below_more (λ j. get_or (set ranks k rank) j 0 ≡ rank_at told tray j) k

@@ -5,7 +5,7 @@ use Rattle.std.proofs.Common.{inl, inr, ⊎_elim}
 use Rattle.lists.specs.Member.{In}
 use Rattle.algebra.specs.Field.{Ops}
 use Rattle.header.specs.declared.told.Told.{Told}
-use Rattle.pick.specs.declared.Picked.{Picked}
+use Rattle.pick.specs.Pick.{Picked}
 use Rattle.pick.specs.JoinGivesLaws.{gives_number}
 use Rattle.pick.specs.Pick.{PickDone, refused, none, chosen, stuck}
 use Rattle.pick.specs.PickedLaws.{large_terms}

@@ -8,7 +8,7 @@ use Rattle.algebra.specs.Field.{Ops, IsField}
 use Rattle.header.specs.declared.told.Told.{Told}
 use Rattle.header.specs.TermsLaws.{TermsFacts}
 use Rattle.agree.specs.ReachesLaws.{reaches_many}
-use Rattle.join.specs.declared.Joined.{Joined}
+use Rattle.join.specs.Join.{Joined}
 use Rattle.join.specs.Join.{join_refusal, JoinDone, refused, judged, few, apart, wide, joined}
 use Rattle.join.specs.DoneLaws.{done_any_room}
 use Rattle.join.specs.RefusalLaws.{facts_accepted}

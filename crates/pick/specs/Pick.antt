@@ -2,12 +2,12 @@
 -- Assumes nothing.
 use Rattle.std.specs.Prelude.{ℕ, ◌+◌, ◌*◌, ◌≤◌, ◌<◌, ◌≡◌, ◌⊎◌, cond, List, eqb, length, replicate}
 use Rattle.algebra.specs.Field.{Ops}
+use Rattle.refusals.specs.Numbers.{code_of}
 use Rattle.header.specs.declared.told.Told.{Told}
 use Rattle.header.specs.Told.{lawful_told}
 use Rattle.tray.specs.Tray.{usable_many}
-use Rattle.join.specs.declared.Joined.{Joined}
-use Rattle.join.specs.Join.{JoinDone}
-use Rattle.pick.specs.declared.Picked.{Picked}
+use Rattle.join.specs.Join.{Joined, JoinDone}
+use Rattle.pick.specs.declared.Picked.{Picked as Chosen}
 
 -- "Good letters in a tray, of the order and in their own keeper's slot, are grouped by stamp and length": the group is what is usable under them, so
 -- its letters are of the key too. A group "of at least t+f+1"
@@ -38,6 +38,16 @@ pub record First (property : ℕ → ℕ → Type 0) (stamp l : ℕ) : Type 0 wh
 -- the refusals that need no letter: 1, of the order or the key, and 4
 unfoldable pub pick_refusal : Told → List ℕ → ℕ
 pick_refusal told tray = cond (lawful_told told) (cond (eqb (length tray) (2048 * told.order.n)) 0 4) 1
+
+-- what the pick answers, in the page's numbers: one, and the stamp and length of the group
+pub record Picked : Type 0 where
+  pub number : ℕ
+  pub stamp : ℕ
+  pub length : ℕ
+
+-- what the pick chose, as that
+abbrev pub picked_of : Chosen → Picked
+picked_of r = record { number = code_of r.outcome; stamp = r.stamp; length = r.length }
 
 -- the number, and the stamp and length of the group
 abbrev pub picked : ℕ → ℕ → ℕ → Picked

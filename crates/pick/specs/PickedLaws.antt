@@ -7,7 +7,7 @@ use Rattle.header.specs.declared.told.Told.{Told}
 use Rattle.header.specs.TermsLaws.{TermsFacts}
 use Rattle.tray.specs.Tray.{usable}
 use Rattle.tray.proofs.UsableLaws.{usable_facts}
-use Rattle.pick.specs.declared.Picked.{Picked}
+use Rattle.pick.specs.Pick.{Picked}
 use Rattle.pick.specs.Passing.{some_passing}
 use Rattle.pick.specs.Pick.{Large, PickDone, refused, none, chosen, stuck}
 

@@ -1,6 +1,6 @@
 -- The ranks of a tray's letters, and the next rank of a large group.
 -- Assumes nothing.
-use Rattle.std.specs.Prelude.{ℕ, ◌+◌, ◌-◌, ◌*◌, ◌/◌, ◌%◌, ◌≤◌, ◌<◌, ◌≡◌, Bool, not, cond, ◌&&◌, List, eqb, leb, ltb, length, get_or}
+use Rattle.std.specs.Prelude.{Option, Some, None, ℕ, ◌==◌, count_by, ◌+◌, ◌-◌, ◌*◌, ◌/◌, ◌%◌, ◌≤◌, ◌<◌, ◌≡◌, Bool, not, cond, ◌&&◌, List, eqb, leb, ltb, length, get_or}
 use Rattle.lists.specs.Count.{count}
 use Rattle.lists.specs.From.{from}
 use Rattle.header.specs.declared.told.Told.{Told}
@@ -9,7 +9,7 @@ use Rattle.header.specs.Head.{lawful_head, same_head, head_of}
 use Rattle.header.specs.TermsLaws.{TermsFacts}
 use Rattle.format.specs.Reading.{block_words}
 use Rattle.tray.specs.Tray.{head_for, slot_of}
-use Rattle.pick.specs.declared.Picked.{Picked}
+use Rattle.pick.specs.Pick.{Picked}
 use Rattle.pick.specs.Pick.{picked}
 
 -- a length is below 1024, so a greater stamp has a greater rank, and of one stamp a greater length
@@ -41,9 +41,14 @@ pub record RanksOf (told : Told) (tray ranks : List ℕ) : Type 0 where
 unfoldable pub size_of : List ℕ → ℕ → ℕ → ℕ
 size_of ranks n rank = count (λ x. eqb (get_or ranks (x - 1) 0) rank) (from 1 n)
 
--- whether a rank below a bound comes after another and its group is at least so large
-unfoldable pub comes_next : List ℕ → ℕ → ℕ → ℕ → ℕ → ℕ → Bool
-comes_next ranks n least bound rank best = ltb best rank && (ltb rank bound && leb least (size_of ranks n rank))
+-- whether a rank is below a bound and its group is at least so large
+abbrev pub is_next : List ℕ → ℕ → ℕ → ℕ → Bool
+is_next ranks least bound rank = ltb 0 rank && (ltb rank bound && leb least (count_by (λ x. x == rank) ranks))
+
+-- no rank of a letter is 0
+abbrev pub rank_or_none : Option ℕ → ℕ
+rank_or_none (Some rank) = rank
+rank_or_none None = 0
 
 -- the greatest of the first n ranks below a bound whose group is at least so large; 0 where there is none
 pub record NextOf (ranks : List ℕ) (n least bound best : ℕ) : Type 0 where

@@ -1,44 +1,29 @@
 // The groups that ranks tell of: how large each is, and which comes next.
-ghost use Rattle.std.specs.Prelude.{◌≡◌, ◌≤◌, length};
-ghost use Rattle.pick.specs.Ranks.{size_of, comes_next, NextOf};
+ghost use Rattle.std.specs.Prelude.{◌≡◌, ◌==◌, max, count_by, filter};
+ghost use Rattle.std.specs.List.{reduce};
+ghost use Rattle.pick.specs.Ranks.{is_next};
 
-// The size of a rank's group: how many of the first n ranks it is.
-fn group_size(ranks: &[u64], n: usize, rank: u64) -> usize
-    requires { n ≤ length ranks.now }
-    ensures { result ≡ size_of ranks.now n rank }
+// The size of a rank's group: how many of the ranks it is.
+fn group_size(ranks: &[u64], rank: u64) -> usize
+    ensures { result ≡ count_by (λ x. x == rank) ranks.now }
 {
-    let mut size = 0;
-    let mut k = 0;
-    while k < n {
-        if ranks[k] == rank {
-            size += 1;
-        }
-        k += 1;
-    }
-    size
+    ranks.iter().filter(|other| **other == rank).count()
 }
 
-// Whether a rank below a bound comes after another and its group is at least so large.
-fn comes_next(ranks: &[u64], n: usize, least: usize, bound: u64, rank: u64, best: u64) -> bool
-    requires { n ≤ length ranks.now }
-    ensures { result ≡ comes_next ranks.now n least bound rank best }
+// Whether a rank is below a bound and its group is at least so large. No rank of a letter is 0.
+fn is_next(ranks: &[u64], least: usize, bound: u64, rank: u64) -> bool
+    ensures { result ≡ is_next ranks.now least bound rank }
 {
-    best < rank && (rank < bound && least <= group_size(ranks, n, rank))
+    0 < rank && (rank < bound && least <= group_size(ranks, rank))
 }
 
-// The greatest of the first n ranks below a bound whose group is at least so large; 0 where there is none.
-pub fn next_of(ranks: &[u64], n: usize, least: usize, bound: u64) -> u64
-    requires { n ≤ length ranks.now }
-    ensures { NextOf ranks.now n least bound result }
+// The greatest of the ranks below a bound whose group is at least so large.
+pub fn next_of(ranks: &[u64], least: usize, bound: u64) -> Option<u64>
+    ensures { result ≡ reduce max (filter (is_next ranks.now least bound) ranks.now) }
 {
-    let mut best = 0;
-    let mut k = 0;
-    while k < n {
-        let rank = ranks[k];
-        if comes_next(ranks, n, least, bound, rank, best) {
-            best = rank;
-        }
-        k += 1;
-    }
-    best
+    ranks
+        .iter()
+        .filter(|rank| is_next(ranks, least, bound, **rank))
+        .max()
+        .copied()
 }

@@ -4,8 +4,8 @@ ghost use Rattle.header.specs.Head.{head_of};
 ghost use Rattle.format.specs.Reading.{block_words};
 ghost use Rattle.pick.specs.Ranks.{rank_of, may_have, rank_said, RanksOf};
 
-use header::head;
 use header::head::{Head, head_of};
+use header::terms::Terms;
 use header::told::Told;
 use tray::{head_for, slot_of};
 
@@ -20,7 +20,12 @@ fn rank_of(stamp: u32, l: usize) -> u64
 fn may_have(told: Told, x: usize, h: Head) -> bool
     ensures { result ≡ may_have told x h }
 {
-    head::lawful(h) && head::same(h, head_for(told, h.stamp, h.length, x))
+    let terms = Terms {
+        told,
+        stamp: h.stamp,
+        length: h.length,
+    };
+    h.is_lawful() && h == head_for(terms, x)
 }
 
 // The rank that the head of a slot says; 0 where no letter of the order and key, and of keeper x, may have it. The rest of the slot
@@ -39,13 +44,12 @@ fn rank_in(slot: &[u8], told: Told, x: usize) -> u64
 
 // Fills in the rank of each keeper's slot.
 pub fn gather(told: Told, tray: &[u8], ranks: &mut [u64])
-    requires { (told.order.n ≤ 16) × (length tray.now ≡ 2048 * told.order.n) × (told.order.n ≤ length ranks.old) }
+    requires few { told.order.n ≤ 16 }
+    requires slots { length tray.now ≡ 2048 * told.order.n }
+    requires of_each { length ranks.old ≡ told.order.n }
     ensures { RanksOf told tray.now ranks.new }
 {
-    let n = told.order.n;
-    let mut k = 0;
-    while k < n {
-        ranks[k] = rank_in(slot_of(tray, k + 1), told, k + 1);
-        k += 1;
+    for (k, rank) in ranks.iter_mut().enumerate() {
+        *rank = rank_in(slot_of(tray, k + 1), told, k + 1);
     }
 }

@@ -1,3 +1,1 @@
-pub mod JoinedLines
-pub mod KeeperLines
 pub mod Reporting

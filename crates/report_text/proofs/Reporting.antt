@@ -1,48 +1,34 @@
 -- From the lines written to the report.
 -- Assumes nothing.
 use Prim.Native.Nat.{ℕ, ◌-◌, ◌<◌, ◌≤◌}
-use mathlib.Core.Path.{◌≡◌, ◌∙◌}
+use mathlib.Core.Path.{◌≡◌}
 use mathlib.Core.Bool.{true, false}
 use mathlib.Core.List.{List}
-use native.Mathlib.Nat.{zero-add}
 use native.Mathlib.Omega.{arith}
 use lib.ListN.{length, take, drop, length-drop}
 use lib.Seq.{take_all}
 use Rattle.field.specs.Modulo.{mod257}
 use Rattle.lines.specs.Lines.{answer_line}
 use Rattle.header.specs.declared.told.Told.{Told}
-use Rattle.pick.specs.declared.Picked.{Picked}
-use Rattle.pick.specs.Pick.{PickDone}
-use Rattle.report_text.specs.declared.answer.Answered.{Answered}
+use Rattle.pick.specs.Pick.{Picked, PickDone}
 use Rattle.report_text.specs.Joined.{JoinedReported}
-use Rattle.report_text.specs.Placed.{Placed}
-use Rattle.report_text.specs.Report.{has_lines, told_in, tray_in, short_number, ReportOf, short, unpicked, joined, Reported}
+use Rattle.report_text.specs.Report.{has_lines, told_in, short_number, ReportOf, short, unpicked, joined}
 
 -- a part up to the end is all that follows
-pub all_of : (xs : List ℕ) (n : ℕ) → take (length xs - n) (drop n xs) ≡ drop n xs
+all_of : (xs : List ℕ) (n : ℕ) → take (length xs - n) (drop n xs) ≡ drop n xs
 all_of xs n = take_all (length xs - n) (drop n xs) (rw length-drop (omega arith))
 
--- what was picked, of the order, the key and the tray that the input has
-pub record PickedOf (input : List ℕ) (told : Told) (tray : List ℕ) (p : Picked) : Type 0 where
-  pub whole : 4 ≤ length input
-  pub of : told ≡ told_in input
-  pub in_it : tray ≡ tray_in input
-  pub pick : PickDone mod257 told tray p
+module _ {input bytes : List ℕ} {number : ℕ} where
+  pub short_reported : length input < 4 → number ≡ short_number input → bytes ≡ answer_line (short_number input) → ReportOf input number bytes
+  short_reported few e w = rw (w, e) (short few)
 
-module _ {input before after : List ℕ} {answered : Answered} where
-  reported : {number : ℕ} {bytes : List ℕ} → ReportOf input number bytes → Placed number bytes before answered after → Reported input before answered after
-  reported {number} {bytes} right p =
-      let w = p.written in
-      record { bytes = bytes; right = rw (← p.numbered) at right; counted = w.place ∙ zero-add (length bytes); written = rw zero-add at w.laid }
+  module _ {told : Told} {p : Picked} (whole : 4 ≤ length input) (of : told ≡ told_in input)
+      (pick : PickDone mod257 told (take (length input - 4) (drop 4 input)) p) where
+    pub unpicked_reported : has_lines p.number ≡ false → number ≡ p.number → bytes ≡ answer_line p.number → ReportOf input number bytes
+    unpicked_reported e n w = rw (w, n) (unpicked p whole (rw (of, all_of input 4) at pick) e)
 
-  pub short_reported : length input < 4 → Placed (short_number input) (answer_line (short_number input)) before answered after → Reported input before answered after
-  short_reported few p = reported (short few) p
-
-  module _ {told : Told} {tray : List ℕ} {p : Picked} (c : PickedOf input told tray p) where
-    pub unpicked_reported : has_lines p.number ≡ false → Placed p.number (answer_line p.number) before answered after → Reported input before answered after
-    unpicked_reported e w = reported (unpicked p c.whole (rw (c.of, c.in_it) at c.pick) e) w
-
-    pub joined_reported : has_lines p.number ≡ true → JoinedReported told p.stamp p.length tray before answered after → Reported input before answered after
+    pub joined_reported : has_lines p.number ≡ true → JoinedReported told p.stamp p.length (take (length input - 4) (drop 4 input)) number bytes
+        → ReportOf input number bytes
     joined_reported e j =
-        reported (joined p j.result j.left c.whole (rw (c.of, c.in_it) at c.pick) e (rw (c.of, c.in_it) at j.done))
-        (rw (c.of, c.in_it) at j.placed)
+        rw (j.written, j.numbered, of, all_of input 4)
+        (joined p j.result j.left whole (rw (of, all_of input 4) at pick) e (rw (of, all_of input 4) at j.done))

@@ -3,10 +3,8 @@
 use Rattle.std.specs.Prelude.{ℕ, ◌*◌, ◌≤◌, ◌≡◌, List, length, replicate}
 use Rattle.field.specs.Modulo.{mod257}
 use Rattle.header.specs.declared.told.Told.{Told}
-use Rattle.join.specs.declared.Joined.{Joined}
+use Rattle.join.specs.Join.{Joined}
 use Rattle.join.specs.Join.{JoinDone}
-use Rattle.report_text.specs.declared.answer.Answered.{Answered}
-use Rattle.report_text.specs.Placed.{Placed}
 use Rattle.report_text.specs.Report.{lines}
 
 -- at most 16 keepers, a slot for each, a lawful key and at most 952 words
@@ -16,9 +14,10 @@ pub record Joinable (told : Told) (l : ℕ) (tray : List ℕ) : Type 0 where
   pub short : l ≤ 952
   pub slots : length tray ≡ 2048 * told.order.n
 
--- the lines of the join, at the start of the space lent, and its number
-pub record JoinedReported (told : Told) (stamp l : ℕ) (tray before : List ℕ) (answered : Answered) (after : List ℕ) : Type 0 where
+-- the lines of the join, and its number
+pub record JoinedReported (told : Told) (stamp l : ℕ) (tray : List ℕ) (number : ℕ) (bytes : List ℕ) : Type 0 where
   pub result : Joined
   pub left : List ℕ
   pub done : JoinDone mod257 told stamp l tray (replicate l 0) result left
-  pub placed : Placed result.number (lines told tray stamp l result) before answered after
+  pub written : bytes ≡ lines told tray stamp l result
+  pub numbered : number ≡ result.number

@@ -10,10 +10,10 @@ use Rattle.block.specs.Check.{all_at_most}
 use Rattle.lines.specs.Lines.{key_line, count_line, answer_line}
 use Rattle.header.specs.declared.told.Told.{Told}
 use Rattle.header.specs.Order.{lawful_order}
-use Rattle.pick.specs.declared.Picked.{Picked}
+use Rattle.pick.specs.Pick.{Picked}
 use Rattle.pick.specs.Pick.{PickDone}
 use Rattle.pick.proofs.NumberLaws.{picked_number}
-use Rattle.join.specs.declared.Joined.{Joined}
+use Rattle.join.specs.Join.{Joined}
 use Rattle.join.specs.Join.{JoinDone}
 use Rattle.join.specs.Join as join
 use Rattle.join.specs.RefusalLaws.{refusal_most}

@@ -5,7 +5,7 @@ use Rattle.std.proofs.lemmas.Bool.{false≢true}
 use Rattle.std.proofs.Common.{⊎_elim}
 use Rattle.algebra.specs.Field.{Ops}
 use Rattle.header.specs.declared.told.Told.{Told}
-use Rattle.pick.specs.declared.Picked.{Picked}
+use Rattle.pick.specs.Pick.{Picked}
 use Rattle.pick.specs.Pick.{pick_refusal, PickDone, refused, none, chosen, stuck}
 use Rattle.pick.specs.PickedLaws.{picked-length}
 use Rattle.pick.specs.RefusalLaws.{pick_facts, refusal_number}

@@ -12,11 +12,12 @@ use Rattle.header.specs.declared.order.Order.{Order}
 use Rattle.header.specs.declared.told.Told.{Told}
 use Rattle.header.specs.Order.{lawful_order}
 use Rattle.tray.specs.Tray.{usable}
-use Rattle.pick.specs.declared.Picked.{Picked}
+use Rattle.pick.specs.Pick.{Picked}
 use Rattle.pick.specs.Pick.{PickDone}
-use Rattle.join.specs.declared.Joined.{Joined}
+use Rattle.join.specs.Join.{Joined}
 use Rattle.join.specs.Join.{JoinDone}
-use Rattle.report_text.specs.declared.answer.Answered.{Answered}
+use Rattle.refusals.specs.Numbers.{code_of}
+use Rattle.report_text.specs.declared.answer.Answered.{Answered as Answer}
 
 -- "'Absent' means not usable in the group picked. For 7 every usable keeper is 'present'." "For 8 it reads as for 0."
 abbrev pub standing : ℕ → Bool → Bool → Standing
@@ -64,6 +65,15 @@ pub data ReportOf (input : List ℕ) : ℕ → List ℕ → Type 0 where
   joined : (p : Picked) (result : Joined) (left : List ℕ) → 4 ≤ length input → PickDone mod257 (told_in input) (tray_in input) p → has_lines p.number ≡ true
       → JoinDone mod257 (told_in input) p.stamp p.length (tray_in input) (replicate p.length 0) result left
       → ReportOf input result.number (lines (told_in input) (tray_in input) p.stamp p.length result)
+
+-- what the report answers, in the page's numbers: the count of its bytes, and the number of the last line
+pub record Answered : Type 0 where
+  pub count : ℕ
+  pub number : ℕ
+
+-- what it answers, as that
+abbrev pub answered_of : Answer → Answered
+answered_of r = record { count = r.count; number = code_of r.outcome }
 
 -- the report stands at the start of the space lent, the count of its bytes and its number are answered, and the rest of the space is as it was
 pub record Reported (input before : List ℕ) (answered : Answered) (after : List ℕ) : Type 0 where

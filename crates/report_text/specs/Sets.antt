@@ -12,7 +12,7 @@ use Rattle.lines.specs.Lines.{key_line, keeper_line, count_line, answer_line, wo
 use Rattle.lines.specs.LineLaws.{length-keeper_line}
 use Rattle.header.specs.declared.told.Told.{Told}
 use Rattle.tray.specs.Tray.{usable}
-use Rattle.join.specs.declared.Joined.{Joined}
+use Rattle.join.specs.Join.{Joined}
 use Rattle.report_text.specs.Report.{standing, lines}
 
 -- the line of keeper k + 1

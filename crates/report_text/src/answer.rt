@@ -1,21 +1,39 @@
-// What the report answers beside the bytes that it writes: how many they are, and the number of the last line.
-ghost use Rattle.std.specs.Prelude.{◌≡◌, length};
+// What the report answers beside the bytes that it writes: how many they are, and what the last line says.
+ghost use Rattle.std.specs.Prelude.{◌≡◌};
+ghost use Rattle.refusals.specs.Numbers.{code_of};
 ghost use Rattle.lines.specs.Lines.{answer_line};
-ghost use Rattle.report_text.specs.Placed.{Placed};
 
 use lines::line::put_answer_line;
+use lines::text::Text;
+use refusals::{Refusal, number};
 
-#[derive(Drop)]
+#[derive(Clone, Copy, Debug, PartialEq, Eq)]
 pub struct Answered {
     pub count: usize,
-    pub number: u32,
+    pub outcome: Result<(), Refusal>,
 }
 
-// Writes a report that has the last line alone.
-pub fn answer_alone(out: &mut [u8], number: u32) -> Answered
-    requires { length out.old ≡ 512 }
-    ensures { Placed number (answer_line number) out.old result out.new }
+// A report, and what its last line says.
+#[derive(Drop)]
+pub struct Page {
+    pub text: Text<512>,
+    pub outcome: Result<(), Refusal>,
+}
+
+// The last line alone, of a number.
+pub fn answer_alone(number: u32) -> Text<512>
+    ensures { result ≡ answer_line number }
 {
-    let count = put_answer_line(out, 0, number);
-    Answered { count, number }
+    let mut text = Text::new();
+    put_answer_line(&mut text, number);
+    text
+}
+
+// A report that has the last line alone.
+pub fn alone(outcome: Result<(), Refusal>) -> Page
+    ensures text { result.text ≡ answer_line (code_of outcome) }
+    ensures outcome { result.outcome ≡ outcome }
+{
+    let text = answer_alone(number(outcome));
+    Page { text, outcome }
 }

@@ -1,50 +1,47 @@
 // The keepers' lines.
-ghost use Rattle.std.specs.Prelude.{◌≡◌, ◌+◌, ◌*◌, ◌<◌, ◌≤◌, length};
+ghost use Rattle.std.specs.Prelude.{◌≡◌, ◌+◌, ◌*◌, ◌<◌, ◌≤◌, ◌++◌, length};
 ghost use Rattle.lists.specs.Pieces.{pieces};
-ghost use Rattle.lines.specs.Written.{Written};
+ghost use Rattle.refusals.specs.Numbers.{code_of};
 ghost use Rattle.report_text.specs.Report.{standing};
 ghost use Rattle.report_text.specs.Sets.{line_of};
 
+use join::Joined;
 use lines::line::{Standing, put_keeper_line};
-use search::keepers::has;
+use lines::text::Text;
+use refusals::Refusal;
+use search::keepers::KeeperSet;
 
-fn standing_of(number: u32, usable: bool, matches: bool) -> Standing
-    ensures { result ≡ standing number usable matches }
+fn standing_of(outcome: Result<(), Refusal>, usable: bool, matches: bool) -> Standing
+    ensures { result ≡ standing (code_of outcome) usable matches }
 {
-    if usable {
-        if number == 7 {
-            Standing::Present
-        } else if matches {
-            Standing::Agrees
-        } else {
-            Standing::Differs
-        }
-    } else {
-        Standing::Absent
+    if !usable {
+        return Standing::Absent;
+    }
+    match outcome {
+        Err(Refusal::NoPolynomials) => Standing::Present,
+        _ if matches => Standing::Agrees,
+        _ => Standing::Differs,
     }
 }
 
 // Writes the line of keeper k + 1.
-fn put_keeper(out: &mut [u8], at: usize, number: u32, usable: u16, set: u16, k: usize) -> usize
+fn put_keeper(text: &mut Text<512>, usable: KeeperSet, joined: Joined, k: usize)
     requires keeper { k < 16 }
-    requires room { at + 64 ≤ length out.old }
-    ensures { Written out.old at (line_of number usable set k) out.new result }
+    requires room { length text.old + 64 ≤ 512 }
+    ensures { text.new ≡ text.old ++ line_of (code_of joined.outcome) usable.bits joined.set.bits k }
 {
-    let stands = standing_of(number, has(usable, k), has(set, k));
-    put_keeper_line(out, at, k as u32 + 1, stands)
+    let stands = standing_of(joined.outcome, usable.has(k), joined.set.has(k));
+    put_keeper_line(text, k as u32 + 1, stands);
 }
 
 // Writes the lines of the keepers 1..n.
-pub fn put_keepers(out: &mut [u8], at: usize, n: usize, number: u32, usable: u16, set: u16) -> usize
+pub fn put_keepers(text: &mut Text<512>, n: usize, usable: KeeperSet, joined: Joined)
     requires n_small { n ≤ 16 }
-    requires room { at + 18 * 16 + 64 ≤ length out.old }
-    ensures { Written out.old at (pieces (line_of number usable set) n) out.new result }
+    requires room { length text.old + 18 * 16 + 64 ≤ 512 }
+    ensures written { text.new ≡ text.old ++ pieces (line_of (code_of joined.outcome) usable.bits joined.set.bits) n }
+    ensures at_most { length text.new ≤ length text.old + 18 * 16 }
 {
-    let mut next = at;
-    let mut k = 0;
-    while k < n {
-        next = put_keeper(out, next, number, usable, set, k);
-        k += 1;
+    for k in 0..n {
+        put_keeper(text, usable, joined, k);
     }
-    next
 }

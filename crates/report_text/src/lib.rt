@@ -2,40 +2,49 @@
 #![tactic(auto)]
 
 ghost use Rattle.std.specs.Prelude.{◌≡◌, ◌≤◌, length};
-ghost use Rattle.report_text.specs.Report.{has_lines, order_in, told_in, short_number, Reported};
+ghost use Rattle.refusals.specs.Numbers.{code, code_of};
+ghost use Rattle.report_text.specs.Report.{has_lines, order_in, told_in, answered_of, short_number, ReportOf, Reported};
 
-use crate::answer::{Answered, answer_alone};
+use crate::answer::{Answered, Page, alone};
 use crate::joined::report_joined;
-use header::order;
 use header::order::Order;
+use header::terms::Terms;
 use header::told::Told;
 use pick::pick;
+use refusals::Refusal;
 
 pub mod answer;
 pub mod joined;
 mod keeper;
 pub mod line;
 
-// Whether the lines of the group picked are written with the pick's number.
-fn has_lines(number: u32) -> bool
-    ensures { result ≡ has_lines number }
+// Whether the lines of the group picked are written with what the pick, or the join, says.
+pub fn has_lines(outcome: Result<(), Refusal>) -> bool
+    ensures { result ≡ has_lines (code_of outcome) }
 {
-    number == 0 || (number == 7 || number == 8)
+    matches!(
+        outcome,
+        Ok(()) | Err(Refusal::NoPolynomials) | Err(Refusal::NoSecret)
+    )
 }
 
 // The report of an input that has an order and a key: of what is picked.
-fn report_picked(told: Told, input: &[u8], out: &mut [u8]) -> Answered
+fn report_picked(told: Told, input: &[u8]) -> Page
     requires input_room { 4 ≤ length input.now }
     requires told_is { told ≡ told_in input.now }
-    requires out_size { length out.old ≡ 512 }
-    ensures { Reported input.now out.old result out.new }
+    ensures { ReportOf input.now (code_of result.outcome) result.text }
 {
     let tray = &input[4..];
     let picked = pick(told, tray);
-    if has_lines(picked.number) {
-        return report_joined(told, picked.stamp, picked.length, tray, out);
+    if !has_lines(picked.outcome) {
+        return alone(picked.outcome);
     }
-    answer_alone(out, picked.number)
+    let terms = Terms {
+        told,
+        stamp: picked.stamp,
+        length: picked.length,
+    };
+    report_joined(terms, tray)
 }
 
 // The order that an input begins with.
@@ -44,33 +53,47 @@ fn order_in(input: &[u8]) -> Order
     ensures { result ≡ order_in input.now }
 {
     Order {
-        t: input[0] as usize,
-        f: input[1] as usize,
-        n: input[2] as usize,
+        t: usize::from(input[0]),
+        f: usize::from(input[1]),
+        n: usize::from(input[2]),
     }
 }
 
-// The number of an input that has no key: 1 where it has an order that is not lawful, else 4.
-fn short_number(input: &[u8]) -> u32
-    ensures { result ≡ short_number input.now }
+// Why an input that has no key is refused: for an order that is not lawful where it has one, else for its size.
+fn short_refusal(input: &[u8]) -> Refusal
+    ensures { code result ≡ short_number input.now }
 {
-    if input.len() < 3 {
-        return 4;
+    if input.len() < 3 || order_in(input).is_lawful() {
+        Refusal::Room
+    } else {
+        Refusal::NotLawful
     }
-    if order::lawful(order_in(input)) { 4 } else { 1 }
 }
 
-// Writes the report, and answers the count of its bytes and its number.
-pub fn report(input: &[u8], out: &mut [u8; 512]) -> Answered
-    ensures { Reported input.now out.old result out.new }
+// The report of an input.
+fn page(input: &[u8]) -> Page
+    ensures { ReportOf input.now (code_of result.outcome) result.text }
 {
     if input.len() < 4 {
-        return answer_alone(out, short_number(input));
+        return alone(Err(short_refusal(input)));
     }
-    let order = order_in(input);
     let told = Told {
-        order,
-        key: input[3] as usize,
+        order: order_in(input),
+        key: usize::from(input[3]),
     };
-    report_picked(told, input, out)
+    report_picked(told, input)
+}
+
+// Writes the report, and answers the count of its bytes and what its last line says.
+pub fn report(input: &[u8], out: &mut [u8; 512]) -> Answered
+    ensures { Reported input.now out.old (answered_of result) out.new }
+{
+    let page = page(input);
+    let bytes = page.text.bytes();
+    let count = bytes.len();
+    out[..count].copy_from_slice(bytes);
+    Answered {
+        count,
+        outcome: page.outcome,
+    }
 }

@@ -1,28 +1,28 @@
 // The lines of a join, by the set of the usable keepers.
-ghost use Rattle.std.specs.Prelude.{◌≡◌, ◌≤◌, length};
-ghost use Rattle.lines.specs.Written.{Written};
+ghost use Rattle.std.specs.Prelude.{◌≡◌, ◌^◌, ◌<◌, ◌≤◌};
+ghost use Rattle.join.specs.Join.{joined_of};
 ghost use Rattle.report_text.specs.Sets.{lines_of};
 
 use crate::keeper::put_keepers;
+use header::terms::Terms;
 use join::Joined;
 use lines::line::{put_answer_line, put_count_line, put_key_line};
+use lines::text::Text;
+use refusals::number;
+use search::keepers::KeeperSet;
 
-pub fn put_lines(
-    out: &mut [u8],
-    n: usize,
-    key: u32,
-    stamp: u32,
-    l: u32,
-    usable: u16,
-    joined: Joined,
-) -> usize
-    requires n_small { n ≤ 16 }
-    requires out_size { length out.old ≡ 512 }
-    ensures { Written out.old 0 (lines_of n key stamp l usable joined) out.new result }
+#[tactic(auto, unfolding(crate::specs::Sets::lines_of))]
+pub fn put_lines(terms: Terms, usable: KeeperSet, joined: Joined) -> Text<512>
+    requires n_small { terms.told.order.n ≤ 16 }
+    requires key_small { terms.told.key < 2 ^ 32 }
+    requires length_small { terms.length < 2 ^ 32 }
+    ensures { result ≡ lines_of terms.told.order.n terms.told.key terms.stamp terms.length usable.bits (joined_of joined) }
 {
-    let keepers = put_key_line(out, 0, key, stamp, l);
-    let count = put_keepers(out, keepers, n, joined.number, usable, joined.set);
-    let agree = u16::count_ones(joined.set);
-    let answer = put_count_line(out, count, joined.usable, joined.need, agree);
-    put_answer_line(out, answer, joined.number)
+    let told = terms.told;
+    let mut text = Text::new();
+    put_key_line(&mut text, told.key as u32, terms.stamp, terms.length as u32);
+    put_keepers(&mut text, told.order.n, usable, joined);
+    put_count_line(&mut text, joined.usable, joined.need, joined.set.count());
+    put_answer_line(&mut text, number(joined.outcome));
+    text
 }

@@ -1,45 +1,42 @@
-// What the program takes and writes: standard input and standard output, each whole or not at all, and no words.
-ghost use Rattle.std.specs.Prelude.{◌≡◌, pos};
-ghost use Rattle.io.specs.Counts.{IsPrefixLen};
+// What the program takes and says: standard input, whole or not at all, and no words.
+ghost use Rattle.std.specs.Prelude.{◌≡◌};
 
 use system::output::{Stream, put};
 
 // Says it on standard error, as far as that takes it.
-fn say(rt: &HostRuntime, words: &[u8]) {
-    let _ = put(rt, Stream::Error, words);
+fn say(rt: &HostRuntime, words: &str) {
+    let _ = put(rt, Stream::Error, words.as_bytes());
 }
 
-// Takes as much as there is room for, and answers how many bytes count; says so where they are none because a read failed.
-pub fn taken(rt: &HostRuntime, room: &mut [u8]) -> usize
-    ensures { IsPrefixLen result room.new }
-{
-    let took = system::input::taken(&mut rt.stdin(), room);
-    if took.failed {
-        say(rt, b"report: standard input cannot be read\n");
+// Takes as much as there is room for; says so where nothing counts because a read failed.
+pub fn taken<'a>(rt: &HostRuntime, room: &'a mut [u8]) -> &'a [u8] {
+    match system::input::taken(&mut rt.stdin(), room) {
+        Ok(bytes) => bytes,
+        Err(_) => {
+            say(rt, "report: standard input cannot be read\n");
+            &[]
+        }
     }
-    took.count
 }
 
-// Whether all was written; says so where it was not.
-pub fn wrote(rt: &HostRuntime, bytes: &[u8]) -> bool {
-    if system::output::wrote(rt, bytes) {
-        return true;
-    }
-    say(rt, b"report: standard output cannot be written\n");
-    false
-}
-
-// Says how to call it. The status is no number of a report, also for --help: 0 says that there is one with answer 0.
-pub fn refuse_words(rt: &HostRuntime) -> i32
-    ensures { result ≡ pos 100 }
+// The status where no report is written, and why. It is no number of a report.
+pub fn unwritten(rt: &HostRuntime, why: &str) -> u8
+    ensures { result ≡ 100 }
 {
-    say(
-        rt,
-        b"usage: report <INPUT, where INPUT is four bytes t, f, n, key and then the tray.\n",
-    );
-    say(
-        rt,
-        b"The status is the number of the answer, or 100 where no report was written.\n",
-    );
+    say(rt, why);
     100
+}
+
+// Says how to call it, also for --help: a status of 0 says that there is a report with answer 0.
+pub fn refuse_words(rt: &HostRuntime) -> u8
+    ensures { result ≡ 100 }
+{
+    say(
+        rt,
+        "usage: report <INPUT, where INPUT is four bytes t, f, n, key and then the tray.\n",
+    );
+    unwritten(
+        rt,
+        "The status is the number of the answer, or 100 where no report was written.\n",
+    )
 }

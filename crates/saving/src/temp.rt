@@ -16,7 +16,7 @@ fn first_number(rt: &HostRuntime) -> u64 {
     let mut bytes = [0u8; 8];
     match rt.fill_bytes(&mut bytes) {
         Ok(()) => u64::from_le_bytes(bytes),
-        Err(_) => process::id(rt.process()) as u64,
+        Err(_) => u64::from(process::id(rt.process())),
     }
 }
 
@@ -36,36 +36,14 @@ fn put_marks(name: &mut [u8]) {
     }
 }
 
-// What one name comes to, and the error where it is not that another has it.
-#[derive(Drop)]
-enum Try {
-    Made(File),
-    Taken(Error),
-    Trouble(Error),
-}
-
-fn try_once(rt: &HostRuntime, name: &[u8]) -> Try {
-    match created(rt, name, 0o600) {
-        Ok(file) => Try::Made(file),
-        Err(error) => {
-            if error.kind() == ErrorKind::AlreadyExists {
-                Try::Taken(error)
-            } else {
-                Try::Trouble(error)
-            }
-        }
-    }
-}
-
 fn made(rt: &HostRuntime, name: &mut [u8]) -> Result<File, Error> {
     let mut number = first_number(rt);
     let mut last = Error::from(ErrorKind::AlreadyExists);
     for _ in 0..TRIES {
         put_signs(name, number);
-        match try_once(rt, name) {
-            Try::Made(file) => return Ok(file),
-            Try::Taken(error) => last = error,
-            Try::Trouble(error) => return Err(error),
+        match created(rt, name, 0o600) {
+            Err(error) if error.kind() == ErrorKind::AlreadyExists => last = error,
+            outcome => return outcome,
         }
         number = number.wrapping_add(7777);
     }
@@ -74,11 +52,9 @@ fn made(rt: &HostRuntime, name: &mut [u8]) -> Result<File, Error> {
 
 // Makes the file, its owner's alone. The name ends in XXXXXX, in place of which it then has other signs; or it stays as it is, where no file was made.
 pub fn created_temp(rt: &HostRuntime, name: &mut [u8]) -> Result<File, Error> {
-    match made(rt, name) {
-        Ok(file) => Ok(file),
-        Err(error) => {
-            put_marks(name);
-            Err(error)
-        }
+    let outcome = made(rt, name);
+    if outcome.is_err() {
+        put_marks(name);
     }
+    outcome
 }

@@ -1,67 +1,58 @@
--- Where a line ends in a text, and what stands behind it.
+-- Where the first line of a text ends, and what stands behind it.
 -- Assumes nothing.
-use Rattle.std.proofs.Common.{ℕ, suc, ◌+◌, ◌-◌, ◌<◌, ◌≤◌, ◌≡◌, refl, ap, sym, ◌∙◌, Bool, true, false, cond, List, [], ◌∷◌, add-one, arith, eqb, length, get_or, take, drop, drop_of_length-le, drop-cons, drop-drop, eq-eqb, ne_eqb}
-use Rattle.std.proofs.lemmas.Bool.{false≢true}
-use Rattle.lists.specs.SameBytes.{same_bytes, same_bytes_equal, equal_same_bytes}
-use Rattle.saying.specs.Table.{line_of, rest_of, rest_at, line_at}
+use Rattle.std.proofs.Common.{ℕ, ◌+◌, ◌-◌, ◌≤◌, ◌≡◌, ◌==◌, refl, ◌∙◌, Bool, true, false, cond, not, List, [], ◌∷◌, eqb, nat_lt, length, take, drop, take_all, length-drop, drop_of_length-le, arith, Some, None, position}
+use Rattle.std.specs.List.{position_or_len}
+use Rattle.saying.specs.Table.{line_of, rest_of}
 
-ended : (x : ℕ) (xs : List ℕ) → x ≡ 10 → line_of (x ∷ xs) ≡ []
+abbrev end_of : List ℕ → ℕ
+end_of t = position_or_len (λ byte. byte == 10) t
+
+taken : (t : List ℕ) → take (end_of t) t ≡ line_of t
 unfolding line_of
-ended x xs e = rw (eq-eqb x 10 e, line_of)
-
-goes : (x : ℕ) (xs : List ℕ) → (x ≡ 10 → ⊥) → line_of (x ∷ xs) ≡ x ∷ line_of xs
-unfolding line_of
-goes x xs h = rw (ne_eqb x 10 h, line_of)
-
--- at the byte that ends it, before it, and at the end of the text
-pub line_ends : (t : List ℕ) (i : ℕ) → i < length t → get_or t i 0 ≡ 10 → length (line_of (drop i t)) ≡ 0
-line_ends t i h e = rw (drop-cons t i 0 h, ended (get_or t i 0) (drop (suc i) t) e)
-
-pub line_goes : (t : List ℕ) (i : ℕ) → i < length t → (get_or t i 0 ≡ 10 → ⊥) → length (line_of (drop i t)) ≡ suc (length (line_of (drop (i + 1) t)))
-line_goes t i h e = rw (add-one, drop-cons t i 0 h, goes (get_or t i 0) (drop (suc i) t) e)
-
-pub line_none : (t : List ℕ) (i : ℕ) → length t ≤ i → length (line_of (drop i t)) ≡ 0
-unfolding line_of
-line_none t i h = rw (drop_of_length-le t h)
-
-take_line : (t : List ℕ) → take (length (line_of t)) t ≡ line_of t
-unfolding line_of
-take_line [] = refl
-take_line (x ∷ xs) = picked (eqb x 10) (take_line xs)
+taken [] = refl
+taken (x ∷ xs) = picked (eqb x 10) (taken xs)
   where
-    picked : (b : Bool) → take (length (line_of xs)) xs ≡ line_of xs
-        → take (length (cond b [] (x ∷ line_of xs))) (x ∷ xs) ≡ cond b [] (x ∷ line_of xs)
+    picked : (b : Bool) → take (end_of xs) xs ≡ line_of xs
+        → take (cond (not b) (1 + end_of xs) 0) (x ∷ xs) ≡ cond b [] (x ∷ line_of xs)
     picked true rest = refl
-    picked false rest = ap (λ zs. x ∷ zs) rest
+    picked false rest = grind arith
 
-drop_line : (t : List ℕ) → drop (suc (length (line_of t))) t ≡ rest_of t
-unfolding line_of rest_of
-drop_line [] = refl
-drop_line (x ∷ xs) = picked (eqb x 10) (drop_line xs)
+left : (t : List ℕ) → drop (end_of t + 1) t ≡ rest_of t
+unfolding rest_of
+left [] = grind arith
+left (x ∷ xs) = picked (eqb x 10) (left xs)
   where
-    picked : (b : Bool) → drop (suc (length (line_of xs))) xs ≡ rest_of xs
-        → drop (suc (length (cond b [] (x ∷ line_of xs)))) (x ∷ xs) ≡ cond b xs (rest_of xs)
-    picked true rest = refl
-    picked false rest = rest
+    picked : (b : Bool) → drop (end_of xs + 1) xs ≡ rest_of xs
+        → drop (cond (not b) (1 + end_of xs) 0 + 1) (x ∷ xs) ≡ cond b xs (rest_of xs)
+    picked true rest = grind arith
+    picked false rest = grind arith
 
--- a line by its places, and the line after it
-module _ (t : List ℕ) (from to n : ℕ) (here : drop from t ≡ rest_at n t) (size : to ≡ from + length (line_of (drop from t))) where
-  pub line_part : take (to - from) (drop from t) ≡ line_at n t
-  line_part =
-      let e : to - from ≡ length (line_of (drop from t)) = omega arith in
-      rw (e, ← here) (take_line (drop from t))
+module _ (t : List ℕ) where
+  pub line_taken : (end : ℕ) → position (λ byte. byte == 10) t ≡ Some end → take end t ≡ line_of t
+  line_taken end = by (nat_lt (end_of t) (length t))
+    where
+      by : (b : Bool) → cond b (Some (end_of t)) None ≡ Some end → take end t ≡ line_of t
+      by true e = let same : end_of t ≡ end = cc in rw (← same) (taken t)
+      by false e = cc
 
-  pub line_next : (next : ℕ) → drop next t ≡ drop (to + 1) t → drop next t ≡ rest_at (n + 1) t
-  unfolding rest_at
-  line_next next after =
-      let e : to + 1 ≡ from + suc (length (line_of (drop from t))) = omega arith in
-      let passed = rw (e, ← drop-drop (suc (length (line_of (drop from t)))) from t) at after in
-      passed ∙ (drop_line (drop from t) ∙ rw (here, add-one, rest_at))
+  pub rest_left : (end : ℕ) → position (λ byte. byte == 10) t ≡ Some end → take (length t - (end + 1)) (drop (end + 1) t) ≡ rest_of t
+  rest_left end = by (nat_lt (end_of t) (length t))
+    where
+      by : (b : Bool) → cond b (Some (end_of t)) None ≡ Some end → take (length t - (end + 1)) (drop (end + 1) t) ≡ rest_of t
+      by true e =
+          let same : end_of t ≡ end = cc in
+          take_all _ (drop (end + 1) t) (omega (arith, length-drop (end + 1) t)) ∙ rw (← same) (left t)
+      by false e = cc
 
-  -- whether it is a word, by the test of its bytes
-  pub line_found : {b : Bool} (word : List ℕ) → b ≡ same_bytes (take (to - from) (drop from t)) word → b ≡ true → line_at n t ≡ word
-  line_found word e same = sym line_part ∙ same_bytes_equal (take (to - from) (drop from t)) word (sym e ∙ same)
+  whole : position (λ byte. byte == 10) t ≡ None → length t ≤ end_of t
+  whole e = by (nat_lt (end_of t) (length t)) refl e
+    where
+      by : (b : Bool) → nat_lt (end_of t) (length t) ≡ b → cond b (Some (end_of t)) None ≡ None → length t ≤ end_of t
+      by true _ e = cc
+      by false h e = grind arith
 
-  pub line_other : {b : Bool} (word : List ℕ) → b ≡ same_bytes (take (to - from) (drop from t)) word → b ≡ false → line_at n t ≡ word → ⊥
-  line_other word e other same =
-      false≢true (sym other ∙ (e ∙ equal_same_bytes (take (to - from) (drop from t)) word (line_part ∙ same)))
+  pub line_whole : position (λ byte. byte == 10) t ≡ None → line_of t ≡ t
+  line_whole e = rw (← taken t) (take_all (end_of t) t (whole e))
+
+  pub rest_none : position (λ byte. byte == 10) t ≡ None → rest_of t ≡ []
+  rest_none e = rw (← left t) (drop_of_length-le t {i = end_of t + 1} (omega (arith, whole e)))

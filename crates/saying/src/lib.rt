@@ -1,75 +1,62 @@
 // What the program says to people: on standard error, in lines that name the file or the word and what is wrong with it.
 #![tactic(auto)]
 
-ghost use Rattle.std.specs.Prelude.{◌≡◌, pos};
-ghost use Rattle.io.specs.Counts.{IsPrefixLen};
+ghost use Rattle.std.specs.Prelude.{◌≡◌};
+ghost use Rattle.saying.specs.Status.{code};
 
 pub mod line;
 pub mod numbers;
-pub mod reason;
+mod reason;
+pub mod status;
 pub mod table;
 
-use crate::line::{add, four, say};
+use crate::line::Line;
 use crate::reason::add_reason;
+use crate::status::Status;
 use std::io::Error;
 
-// What the program ends with where a file could not be read, written or taken.
-const FAILED: i32 = 100;
-
-// What it ends with where a word was wrong.
-const MISUSED: i32 = 101;
-
 // A file, and what is wrong with it.
-fn about(out: &mut [u8], name: &[u8], what: &[u8]) -> usize
-    ensures { IsPrefixLen result out.new }
-{
-    four(out, b"csalgodes: ", name, b": ", what)
+fn about(name: &[u8], what: &[u8]) -> Line {
+    let mut line = Line::new();
+    line.add(name);
+    line.add(b": ");
+    line.add(what);
+    line
 }
 
 // What is wrong with a file, and the system's own reason for it.
-pub fn trouble(rt: &HostRuntime, name: &[u8], what: &[u8], error: Error) -> i32
-    ensures { result ≡ pos 100 }
+pub fn trouble(rt: &HostRuntime, name: &[u8], what: &[u8], error: Error) -> Status
+    ensures { code result ≡ 100 }
 {
-    let mut out = [0u8; 8192];
-    let told = about(&mut out, name, what);
-    let count = add_reason(&mut out, told, error);
-    say(rt, &mut out, count);
-    FAILED
+    let mut line = about(name, what);
+    add_reason(&mut line, error);
+    line.say(rt);
+    Status::Failed
 }
 
 // What is wrong with a file, where the program itself has the reason.
-pub fn refused(rt: &HostRuntime, name: &[u8], what: &[u8]) -> i32
-    ensures { result ≡ pos 100 }
+pub fn refused(rt: &HostRuntime, name: &[u8], what: &[u8]) -> Status
+    ensures { code result ≡ 100 }
 {
-    let mut out = [0u8; 8192];
-    let count = about(&mut out, name, what);
-    say(rt, &mut out, count);
-    FAILED
-}
-
-// Which word is wrong, and by which rule.
-fn wrong_word(out: &mut [u8], command: &[u8], word: &[u8], rule: &[u8]) -> usize
-    ensures { IsPrefixLen result out.new }
-{
-    let named = four(out, b"csalgodes: ", command, b": '", word);
-    let quoted = add(out, named, b"': ");
-    add(out, quoted, rule)
+    about(name, what).say(rt);
+    Status::Failed
 }
 
 // Which word is wrong, and by which rule; and where the rules stand.
-pub fn wrong(rt: &HostRuntime, command: &[u8], word: &[u8], rule: &[u8]) -> i32
-    ensures { result ≡ pos 101 }
+pub fn wrong(rt: &HostRuntime, command: &[u8], word: &[u8], rule: &[u8]) -> Status
+    ensures { code result ≡ 101 }
 {
-    let mut out = [0u8; 8192];
-    let count = wrong_word(&mut out, command, word, rule);
-    say(rt, &mut out, count);
-    let shown = four(
-        &mut out,
-        b"csalgodes: 'csalgodes help ",
-        command,
-        b"' says how it is used",
-        b"",
-    );
-    say(rt, &mut out, shown);
-    MISUSED
+    let mut line = Line::new();
+    line.add(command);
+    line.add(b": '");
+    line.add(word);
+    line.add(b"': ");
+    line.add(rule);
+    line.say(rt);
+    let mut more = Line::new();
+    more.add(b"'csalgodes help ");
+    more.add(command);
+    more.add(b"' says how it is used");
+    more.say(rt);
+    Status::Misused
 }

@@ -1,75 +1,59 @@
 // Tables as text: each line an entry, counted from 0.
-ghost use Rattle.std.specs.Prelude.{◌≡◌, ◌+◌, ◌-◌, ◌≤◌, length, take, drop};
-ghost use Rattle.saying.specs.Table.{line_of, line_at, First};
+// They stay for their promises, `line_at` and `First`: what the program says is no table any more.
+ghost use Rattle.std.specs.Prelude.{◌≡◌, ◌==◌, ◌<◌, position, IfSome, unwrap_or};
+ghost use Rattle.saying.specs.Table.{line_of, rest_of, line_at, First};
 
-use block::bytes::same;
-
-// A part of a text.
-#[derive(Drop)]
-pub struct Part {
-    pub from: usize,
-    pub to: usize,
+// Where the first line ends, if another can follow.
+fn line_end(text: &[u8]) -> Option<usize>
+    ensures { result ≡ position (λ byte. byte == 10) text.now }
+{
+    text.iter().position(|byte| *byte == 10)
 }
 
-// Where the line ends that begins at a place.
-fn line_end(text: &[u8], from: usize) -> usize
-    requires { from ≤ length text.now }
-    ensures value { result ≡ from + length (line_of (drop from text.now)) }
-    ensures upper_bound { result ≤ length text.now }
+// The first line, without the byte that ends it.
+#[tactic(auto, using(crate::proofs::Lines::line_taken, crate::proofs::Lines::line_whole))]
+fn line(text: &[u8]) -> &[u8]
+    ensures { result.now ≡ line_of text.now }
 {
-    let mut at = from;
-    while at < text.len() {
-        if text[at] == 10 {
-            return at;
-        }
-        at += 1;
+    match line_end(text) {
+        Some(end) => &text[..end],
+        None => text,
     }
-    at
 }
 
-// The place after a line that ends here: behind the byte that ends it, or the text's end.
-fn after(text: &[u8], end: usize) -> usize
-    requires { end ≤ length text.now }
-    ensures text_value { drop result text.now ≡ drop (end + 1) text.now }
-    ensures upper_bound { result ≤ length text.now }
+// What stands behind the first line: behind the byte that ends it, or nothing.
+#[tactic(auto, using(crate::proofs::Lines::rest_left, crate::proofs::Lines::rest_none))]
+fn rest(text: &[u8]) -> &[u8]
+    ensures { result.now ≡ rest_of text.now }
 {
-    if end < text.len() {
-        return end + 1;
+    match line_end(text) {
+        Some(end) => &text[end + 1..],
+        None => &text[text.len()..],
     }
-    end
 }
 
 // The line of a number; behind the last line an empty one.
-pub fn entry(text: &[u8], number: usize) -> Part
-    ensures from_le_to { result.from ≤ result.to }
-    ensures to_in_bounds { result.to ≤ length text.now }
-    ensures text_value { take (result.to - result.from) (drop result.from text.now) ≡ line_at number text.now }
+pub fn entry(text: &[u8], number: usize) -> &[u8]
+    ensures { result.now ≡ line_at number text.now }
 {
-    let mut from = 0;
-    let mut passed = 0;
-    while passed < number {
-        let end = line_end(text, from);
-        from = after(text, end);
-        passed += 1;
+    let mut left = text;
+    for _ in 0..number {
+        left = rest(left);
     }
-    let to = line_end(text, from);
-    Part { from, to }
+    line(left)
 }
 
-// The number of the first line, of so many, that is this word; or how many there are.
-pub fn place(text: &[u8], entries: usize, word: &[u8]) -> usize
-    ensures upper_bound { result ≤ entries }
-    ensures first { First text.now entries word.now result }
+// The number of the first line, of so many, that is this word.
+pub fn place(text: &[u8], entries: usize, word: &[u8]) -> Option<usize>
+    ensures upper_bound { IfSome result (λ number. number < entries) }
+    ensures first { First text.now entries word.now (unwrap_or result entries) }
 {
-    let mut number = 0;
-    let mut from = 0;
-    while number < entries {
-        let to = line_end(text, from);
-        if same(&text[from..to], word) {
-            return number;
+    let mut left = text;
+    for number in 0..entries {
+        if line(left) == word {
+            return Some(number);
         }
-        from = after(text, to);
-        number += 1;
+        left = rest(left);
     }
-    entries
+    None
 }

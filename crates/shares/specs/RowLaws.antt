@@ -19,6 +19,13 @@ part_of columns l j = take l (drop (l * j) columns)
 pub part-within : (l t j : ℕ) → j ≤ t → l * j + l ≤ l * (t + 1)
 part-within l t j h = omega (arith, mul-le-mul_left l h)
 
+-- and row k of n lies within all of them
+pub row_within : (l n k : ℕ) → k < n → l * k + l ≤ l * n
+row_within l n k h = omega (arith, mul-le-mul_left l h)
+
+-- for the bounds of a part
+pub ruleset parts_lie = (part-within, row_within)
+
 pub get_d_part : (columns : List ℕ) (l j i : ℕ) → i < l → get_or (part_of columns l j) i 0 ≡ get_or columns (l * j + i) 0
 get_d_part columns l j i h = rw (get_or-take l (drop (l * j) columns) i 0 h, get_or-drop)
 

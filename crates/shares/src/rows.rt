@@ -6,26 +6,6 @@ ghost use Rattle.lists.specs.Pieces.{pieces};
 ghost use Rattle.field.specs.Modulo.{mod257};
 ghost use Rattle.shares.specs.Columns.{values_from};
 
-// A keeper's number as a word.
-pub fn narrow(x: usize) -> u16
-    requires { x ≤ 16 }
-    ensures { result ≡ x }
-{
-    x as u16
-}
-
-// Copies words to a row of as many.
-pub(crate) fn copy(column: &[u16], row: &mut [u16])
-    requires { length row.old ≡ length column.now }
-    ensures { row.new ≡ column.now }
-{
-    let mut i = 0;
-    while i < row.len() {
-        row[i] = column[i];
-        i += 1;
-    }
-}
-
 // One step of Horner's rule, along a row. No word of it exceeds 256 * 16 + 256.
 fn step(row: &mut [u16], x: u16, column: &[u16])
     requires as_long { length row.old ≡ length column.now }
@@ -34,15 +14,14 @@ fn step(row: &mut [u16], x: u16, column: &[u16])
     requires keeper { x ≤ 16 }
     ensures { row.new ≡ listed (λ i. mod257.add (get_or column.now i 0) (mod257.mul x (get_or row.old i 0))) (length row.old) }
 {
-    let mut i = 0;
-    while i < row.len() {
-        row[i] = (row[i] * x + column[i]) % 257;
-        i += 1;
+    for (i, word) in column.iter().enumerate() {
+        row[i] = (row[i] * x + *word) % 257;
     }
 }
 
 // The values at x of the polynomials across t + 1 columns, from the highest power down.
-pub fn share_row(columns: &[u16], t: usize, x: u16, row: &mut [u16])
+#[tactic(auto, using(crate::specs::RowLaws::parts_lie))]
+pub fn share_row(columns: &[u16], t: usize, x: usize, row: &mut [u16])
     requires as_long { length columns.now ≡ length row.old * (t + 1) }
     requires words { Below 257 columns.now }
     requires keeper { x ≤ 16 }
@@ -50,16 +29,15 @@ pub fn share_row(columns: &[u16], t: usize, x: u16, row: &mut [u16])
 {
     let l = row.len();
     let last = l * t;
-    copy(&columns[last..last + l], row);
-    let mut j = t;
-    while 0 < j {
-        j -= 1;
+    row.copy_from_slice(&columns[last..last + l]);
+    for j in (0..t).rev() {
         let at = l * j;
-        step(row, x, &columns[at..at + l]);
+        step(row, x as u16, &columns[at..at + l]);
     }
 }
 
 // The rows of keepers 1..n, each of l words, in their order.
+#[tactic(auto, using(crate::specs::RowLaws::parts_lie))]
 pub(crate) fn write_rows(columns: &[u16], t: usize, n: usize, l: usize, rows: &mut [u16])
     requires as_long { length columns.now ≡ l * (t + 1) }
     requires words { Below 257 columns.now }
@@ -67,10 +45,8 @@ pub(crate) fn write_rows(columns: &[u16], t: usize, n: usize, l: usize, rows: &m
     requires room { length rows.old ≡ l * n }
     ensures { rows.new ≡ pieces (λ k. values_from mod257 columns.now l t (suc k) 0) n }
 {
-    let mut k = 0;
-    while k < n {
+    for k in 0..n {
         let at = l * k;
-        share_row(columns, t, narrow(k + 1), &mut rows[at..at + l]);
-        k += 1;
+        share_row(columns, t, k + 1, &mut rows[at..at + l]);
     }
 }

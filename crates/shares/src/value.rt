@@ -10,9 +10,7 @@ pub fn share_word(constant: u16, coefficients: &[u16], x: u16) -> u16
     ensures { result ≡ eval mod257 (constant ∷ coefficients.now) x }
 {
     let mut value: u16 = 0;
-    let mut i = coefficients.len();
-    while 0 < i {
-        i -= 1;
+    for i in (0..coefficients.len()).rev() {
         value = add(coefficients[i], mul(x, value));
     }
     add(constant, mul(x, value))

@@ -1,107 +1,100 @@
-// The lines that the program csalgodes prints of a letter, of a difference, of a count and of a move that is checked, each from the start of a room of 128 bytes.
+// The lines that the program csalgodes prints of a letter, of a difference, of a count and of a move that is checked, each a text of at most 128 bytes.
 #![tactic(auto)]
 
-ghost use Rattle.std.specs.Prelude.{◌+◌, ◌≤◌, ◌++◌, length};
-ghost use Rattle.io.specs.Counts.{IsPrefixLen};
-ghost use Rattle.lines.specs.Text.{decimal};
-ghost use Rattle.lines.specs.Written.{Written};
+ghost use Rattle.std.specs.Prelude.{◌≡◌, ◌≤◌, length};
 ghost use Rattle.showing.specs.Lines.{letter_line, difference_line, total_line, trials_line, key_line, same_line};
 
-use lines::line::put_named;
-use lines::text::{put, put_decimal};
+use lines::text::Text;
 
-// Writes two numbers, each after its name, and answers the place after them.
-fn put_pair(out: &mut [u8], at: usize, a: &[u8], x: u32, b: &[u8], y: u32) -> usize
-    requires { at + length a.now + length b.now + 20 ≤ length out.old }
-    ensures written { Written out.old at ((a.now ++ decimal x) ++ (b.now ++ decimal y)) out.new result }
-    ensures upper_bound { result ≤ at + length a.now + length b.now + 20 }
-{
-    let next = put_named(out, at, a, x);
-    put_named(out, next, b, y)
-}
+// A line that is printed.
+pub type Line = Text<128>;
 
 // As "order 2,1,8 key 100 keeper 3 stamp 2 length 32".
-pub fn put_letter_line(
-    out: &mut [u8; 128],
-    t: u32,
-    f: u32,
-    n: u32,
-    key: u32,
-    keeper: u32,
-    stamp: u32,
-    l: u32,
-) -> usize
-    ensures prefix_len { IsPrefixLen result out.new }
-    ensures written { Written out.old 0 (letter_line t f n key keeper stamp l) out.new result }
+#[tactic(auto, unfolding(crate::specs::Lines::letter_line, lines::specs::Text::text, lists::specs::Listed::listed))]
+pub fn put_letter_line(t: u32, f: u32, n: u32, key: u32, keeper: u32, stamp: u32, l: u32) -> Line
+    ensures { result ≡ letter_line t f n key keeper stamp l }
 {
-    let of_t = put_named(out, 0, b"order ", t);
-    let of_n = put_pair(out, of_t, b",", f, b",", n);
-    let of_keeper = put_pair(out, of_n, b" key ", key, b" keeper ", keeper);
-    let of_length = put_pair(out, of_keeper, b" stamp ", stamp, b" length ", l);
-    put(out, of_length, b"\n")
+    let mut line = Text::new();
+    line.put_named(b"order ", t);
+    line.put_named(b",", f);
+    line.put_named(b",", n);
+    line.put_named(b" key ", key);
+    line.put_named(b" keeper ", keeper);
+    line.put_named(b" stamp ", stamp);
+    line.put_named(b" length ", l);
+    line.put(b"\n");
+    line
 }
 
 // As "slot 6 block 0 word 9: 2 became 3".
-pub fn put_difference_line(
-    out: &mut [u8; 128],
-    slot: u32,
-    block: u32,
-    word: u32,
-    first: u32,
-    second: u32,
-) -> usize
-    ensures prefix_len { IsPrefixLen result out.new }
-    ensures written { Written out.old 0 (difference_line slot block word first second) out.new result }
+#[tactic(auto, unfolding(crate::specs::Lines::difference_line, lines::specs::Text::text, lists::specs::Listed::listed))]
+pub fn put_difference_line(slot: u32, block: u32, word: u32, first: u32, second: u32) -> Line
+    ensures { result ≡ difference_line slot block word first second }
 {
-    let of_slot = put_named(out, 0, b"slot ", slot);
-    let of_word = put_pair(out, of_slot, b" block ", block, b" word ", word);
-    let of_second = put_pair(out, of_word, b": ", first, b" became ", second);
-    put(out, of_second, b"\n")
+    let mut line = Text::new();
+    line.put_named(b"slot ", slot);
+    line.put_named(b" block ", block);
+    line.put_named(b" word ", word);
+    line.put_named(b": ", first);
+    line.put_named(b" became ", second);
+    line.put(b"\n");
+    line
 }
 
 // As "no word differs", "1 word differs" or "2 words differ".
-pub fn put_total_line(out: &mut [u8; 128], count: u32) -> usize
-    ensures prefix_len { IsPrefixLen result out.new }
-    ensures written { Written out.old 0 (total_line count) out.new result }
+#[tactic(auto, unfolding(crate::specs::Lines::total_line, lines::specs::Text::text, lists::specs::Listed::listed))]
+pub fn put_total_line(count: u32) -> Line
+    ensures { result ≡ total_line count }
 {
-    if count == 0 {
-        return put(out, 0, b"no word differs\n");
+    let mut line = Text::new();
+    match count {
+        0 => line.put(b"no word differs\n"),
+        1 => line.put(b"1 word differs\n"),
+        _ => {
+            line.put_decimal(count);
+            line.put(b" words differ\n");
+        }
     }
-    if count == 1 {
-        return put(out, 0, b"1 word differs\n");
-    }
-    let next = put_decimal(out, 0, count);
-    put(out, next, b" words differ\n")
+    line
 }
 
 // As "trials 2".
-pub fn put_trials_line(out: &mut [u8; 128], trials: u32) -> usize
-    ensures prefix_len { IsPrefixLen result out.new }
-    ensures written { Written out.old 0 (trials_line trials) out.new result }
+#[tactic(auto, unfolding(crate::specs::Lines::trials_line, lines::specs::Text::text, lists::specs::Listed::listed))]
+pub fn put_trials_line(trials: u32) -> Line
+    ensures { result ≡ trials_line trials }
 {
-    let next = put_named(out, 0, b"trials ", trials);
-    put(out, next, b"\n")
+    let mut line = Text::new();
+    line.put_named(b"trials ", trials);
+    line.put(b"\n");
+    line
 }
 
 // As "old key 100 stamp 2 length 32", where the side is "old".
-pub fn put_key_line(out: &mut [u8; 128], side: &[u8], key: u32, stamp: u32, l: u32) -> usize
+#[tactic(auto, unfolding(crate::specs::Lines::key_line, lines::specs::Text::text, lists::specs::Listed::listed))]
+pub fn put_key_line(side: &[u8], key: u32, stamp: u32, l: u32) -> Line
     requires { length side.now ≤ 3 }
-    ensures prefix_len { IsPrefixLen result out.new }
-    ensures written { Written out.old 0 (key_line side.now key stamp l) out.new result }
+    ensures { result ≡ key_line side.now key stamp l }
 {
-    let of_side = put(out, 0, side);
-    let of_key = put_named(out, of_side, b" key ", key);
-    let of_length = put_pair(out, of_key, b" stamp ", stamp, b" length ", l);
-    put(out, of_length, b"\n")
+    let mut line = Text::new();
+    line.put(side);
+    line.put_named(b" key ", key);
+    line.put_named(b" stamp ", stamp);
+    line.put_named(b" length ", l);
+    line.put(b"\n");
+    line
 }
 
 // "the same key" or "different keys".
-pub fn put_same_line(out: &mut [u8; 128], same: bool) -> usize
-    ensures prefix_len { IsPrefixLen result out.new }
-    ensures written { Written out.old 0 (same_line same) out.new result }
+#[tactic(auto, unfolding(crate::specs::Lines::same_line, lines::specs::Text::text, lists::specs::Listed::listed))]
+pub fn put_same_line(same: bool) -> Line
+    ensures { result ≡ same_line same }
 {
-    if same {
-        return put(out, 0, b"the same key\n");
-    }
-    put(out, 0, b"different keys\n")
+    let words = if same {
+        &b"the same key\n"[..]
+    } else {
+        b"different keys\n"
+    };
+    let mut line = Text::new();
+    line.put(words);
+    line
 }

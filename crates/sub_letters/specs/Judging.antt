@@ -1,6 +1,7 @@
 -- What a weighing answers: by what is told and lent, then by the sub-letters.
 -- Assumes nothing.
-use Rattle.std.specs.Prelude.{ℕ, zero, suc, ◌+◌, ◌*◌, Bool, cond, ◌&&◌, List, eqb, length}
+use Rattle.std.specs.Prelude.{ℕ, zero, suc, ◌+◌, ◌*◌, ◌<◌, ◌≡◌, Bool, cond, ◌&&◌, List, Result, Ok, Err, eqb, length}
+use Rattle.refusals.specs.Numbers.{code}
 use Rattle.header.specs.FirstOf.{first_of}
 use Rattle.header.specs.Head.{same_head}
 use Rattle.header.specs.Order.{lawful_keeper}
@@ -8,7 +9,7 @@ use Rattle.format.specs.Reading.{number_of, place_of}
 use Rattle.tray.specs.Tray.{head_for}
 use Rattle.moving.specs.declared.terms.Move.{Move}
 use Rattle.moving.specs.Move.{move_number}
-use Rattle.sub_letters.specs.declared.judging.Weighing.{Weighing}
+use Rattle.sub_letters.specs.declared.judging.SubFault.{SubFault}
 use Rattle.sub_letters.specs.Keepers.{all_keepers}
 use Rattle.sub_letters.specs.Subs.{sub_reading, sub_head, froms_right}
 
@@ -22,9 +23,33 @@ weigh_refusal m keepers keeper letters slot =
     first_of (move_number m (all_keepers m.old keepers && lawful_keeper m.told.order keeper))
     (cond (weigh_lent m (length keepers) (length letters) (length slot)) 0 4)
 
+-- what a weighing answers, in the page's numbers: one, which sub-letter it is of, and the place of a fault there
+pub record Weighing : Type 0 where
+  pub number : ℕ
+  pub letter : ℕ
+  pub place : ℕ
+
 -- "Unless stated, every other number in a refusal's result is 0."
 abbrev pub only : ℕ → Weighing
 only number = record { number = number; letter = 0; place = 0 }
+
+-- the Rust answer as that: 0 of no sub-letter where nothing is refused
+abbrev pub weighing_of : Result Unit SubFault → Weighing
+weighing_of (Ok done) = only 0
+weighing_of (Err fault) = record { number = code fault.refusal; letter = fault.letter; place = fault.place }
+
+-- a rule found nothing wrong, or what it says
+abbrev pub FoundBy : Weighing → Result Unit SubFault → Type 0
+FoundBy said (Ok done) = said.number ≡ 0
+FoundBy said (Err fault) = weighing_of (Err fault) ≡ said
+
+-- of so many sub-letters, the answer about the first that an answer refuses; where none is refused, all are answered for
+abbrev pub Answered : (ℕ → Result Unit SubFault → Type 0) → ℕ → Result Unit SubFault → Type 0
+Answered answers count (Ok done) = (k : ℕ) → k < count → answers k (Ok tt)
+Answered answers count (Err fault) = (k : ℕ) × (k < count) × answers k (Err fault) × ((j : ℕ) → j < k → answers j (Ok tt))
+
+pub record FirstBy (answers : ℕ → Result Unit SubFault → Type 0) (count : ℕ) (result : Result Unit SubFault) : Type 0 where
+  pub answered : Answered answers count result
 
 -- what is said first, where its number is not 0; else what is said next
 abbrev pub or_next : Weighing → Weighing → Weighing

@@ -14,17 +14,15 @@ use Rattle.header.specs.HeadLaws.{facts_lawful_head, same_head_equal}
 use Rattle.header.specs.Order.{lawful_keeper}
 use Rattle.header.specs.OrderLaws.{KeeperFacts, lawful_keeper_facts}
 use Rattle.header.specs.Passing.{passed, passing, and_left, and_right}
-use Rattle.format.specs.declared.reader.Reading.{Reading}
-use Rattle.format.specs.declared.reader.Reading.TheVariants.{Good, Bad}
+use Rattle.format.specs.Reading.{Reading, Good, Bad, read_as, shares_of, number_of}
 use Rattle.format.specs.GoodWritten.{good_shares}
-use Rattle.format.specs.Reading.{read_as, shares_of, number_of}
 use Rattle.format.specs.ReadingBounds.{FaultsIn, fault_facts_as, good_said}
 use Rattle.tray.specs.Tray.{slot_of, head_for}
 use Rattle.moving.specs.declared.terms.Move.{Move}
 use Rattle.moving.specs.Lent.{MoveTerms}
 use Rattle.moving.specs.MoveLaws.{move_terms}
 use Rattle.moving.specs.Move.{move_number}
-use Rattle.sub_letters.specs.declared.judging.Weighing.{Weighing}
+use Rattle.sub_letters.specs.Judging.{Weighing}
 use Rattle.sub_letters.specs.Keepers.{all_keepers}
 use Rattle.sub_letters.specs.Lent.{SubsLent}
 use Rattle.sub_letters.specs.Subs.{froms_right}

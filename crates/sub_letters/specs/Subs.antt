@@ -5,9 +5,8 @@ use Rattle.lists.specs.AllTo.{all_to}
 use Rattle.lists.specs.Listed.{listed}
 use Rattle.header.specs.declared.head.Head.{Head}
 use Rattle.header.specs.Head.{head_of}
-use Rattle.format.specs.declared.reader.Reading.{Reading}
+use Rattle.format.specs.Reading.{Reading, block_words, read_as}
 use Rattle.format.specs.Letter.{blocks_for}
-use Rattle.format.specs.Reading.{block_words, read_as}
 use Rattle.tray.specs.Tray.{slot_of}
 use Rattle.sub_letters.specs.Keepers.{differ, each_in}
 
@@ -31,8 +30,11 @@ froms_of letters count = listed (λ k. from_at letters k 0) count
 unfoldable pub steady : List ℕ → ℕ → ℕ → Bool
 steady letters count l = all_to (λ k. all_to (λ p. eqb (from_at letters k p) (from_at letters k 0)) (blocks_for l)) count
 
+-- what is asked of the keepers told and the froms, those that the sub-letters name
+abbrev pub named_right : List ℕ → List ℕ → List ℕ → ℕ → Bool
+named_right keepers froms letters l =
+    differ keepers && (differ froms && (each_in keepers froms && (each_in froms keepers && steady letters (length keepers) l)))
+
 -- not 19: "an old keeper repeated, missing, not told or changing between blocks"
 unfoldable pub froms_right : List ℕ → List ℕ → ℕ → Bool
-froms_right keepers letters l =
-    let froms = froms_of letters (length keepers) in
-    differ keepers && (differ froms && (each_in keepers froms && (each_in froms keepers && steady letters (length keepers) l)))
+froms_right keepers letters l = named_right keepers (froms_of letters (length keepers)) letters l

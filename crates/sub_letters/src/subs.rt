@@ -1,9 +1,9 @@
 // Sub-letters lent end to end: the old keepers that they name.
-ghost use Rattle.std.specs.Prelude.{◌≡◌, suc, ◌≤◌, eqb, length};
+ghost use Rattle.std.specs.Prelude.{◌≡◌, suc, ◌≤◌, eqb, length, take};
 ghost use Rattle.lists.specs.AllTo.{all_to};
 ghost use Rattle.format.specs.Letter.{blocks_for};
 ghost use Rattle.sub_letters.specs.Lent.{SubsLent};
-ghost use Rattle.sub_letters.specs.Subs.{from_at, froms_of, steady, froms_right};
+ghost use Rattle.sub_letters.specs.Subs.{from_at, froms_of, steady, named_right};
 
 use crate::keepers::{are_among, are_different};
 use block::words::word_at;
@@ -19,16 +19,16 @@ fn from_at(letters: &[u8], k: usize, p: usize) -> u16
     word_at(block_at(slot_of(letters, k + 1), p), 14)
 }
 
-// Fills a row with the old keepers that as many sub-letters name.
-pub fn put_froms(letters: &[u8], row: &mut [u16])
-    requires { SubsLent letters.now (length row.old) }
-    ensures { row.new ≡ froms_of letters.now (length row.old) }
+// The old keepers that so many sub-letters name, in front of eight.
+pub fn froms_of(letters: &[u8], count: usize) -> [u16; 8]
+    requires { SubsLent letters.now count }
+    ensures { take count result ≡ froms_of letters.now count }
 {
-    let mut k = 0;
-    while k < row.len() {
-        row[k] = from_at(letters, k, 0);
-        k += 1;
+    let mut froms = [0; 8];
+    for k in 0..count {
+        froms[k] = from_at(letters, k, 0);
     }
+    froms
 }
 
 // Whether a sub-letter of so many blocks names one old keeper in all of them.
@@ -37,14 +37,7 @@ fn names_one(letters: &[u8], k: usize, count: usize) -> bool
     ensures { result ≡ all_to (λ p. eqb (from_at letters.now k p) (from_at letters.now k 0)) count }
 {
     let first = from_at(letters, k, 0);
-    let mut p = 0;
-    while p < count {
-        if from_at(letters, k, p) != first {
-            return false;
-        }
-        p += 1;
-    }
-    true
+    (0..count).all(|p| from_at(letters, k, p) == first)
 }
 
 // Whether each of the sub-letters does.
@@ -53,21 +46,14 @@ fn are_steady(letters: &[u8], count: usize, l: usize) -> bool
     ensures { result ≡ steady letters.now count l }
 {
     let many = blocks(l);
-    let mut k = 0;
-    while k < count {
-        if !names_one(letters, k, many) {
-            return false;
-        }
-        k += 1;
-    }
-    true
+    (0..count).all(|k| names_one(letters, k, many))
 }
 
 // Whether the sub-letters are those of the keepers told, one of each. The froms are the old keepers that they name.
+#[tactic(auto, using(header::specs::Chain::chain))]
 pub fn froms_right(keepers: &[u16], froms: &[u16], letters: &[u8], l: usize) -> bool
-    requires named { froms.now ≡ froms_of letters.now (length keepers.now) }
-    requires lent { SubsLent letters.now (length keepers.now) × (l ≤ 952) }
-    ensures { result ≡ froms_right keepers.now letters.now l }
+    requires { SubsLent letters.now (length keepers.now) × (l ≤ 952) }
+    ensures { result ≡ named_right keepers.now froms.now letters.now l }
 {
     are_different(keepers)
         && (are_different(froms)

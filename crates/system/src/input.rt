@@ -1,58 +1,33 @@
 // What a file that is open gives, taken until it ends or there is no more room.
-ghost use Rattle.std.specs.Prelude.{◌≡◌, true, cond, ◌+◌, ◌≤◌, length};
-ghost use Rattle.io.specs.Counts.{IsPrefixLen};
+ghost use Rattle.std.specs.Prelude.{◌≡◌, ◌≤◌, length, take, IfOk, IsErr};
 
 use std::io::{Error, Read};
 
-// What came, and why a read failed where one did. Then nothing counts, since what came need not be all.
-#[derive(Drop)]
-pub struct Piece {
-    pub failed: bool,
-    pub count: usize,
-    pub error: Error,
-}
-
-fn read_on<R: Read>(file: &mut R, room: &mut [u8], from: usize) -> Piece
-    requires { from ≤ length room.old }
-    ensures count { from + result.count ≤ length room.old }
-    ensures room { length room.new ≡ length room.old }
+// What counts of the bytes that came: so many where no read failed, since else what came need not be all.
+fn whole(room: &[u8], count: usize, end: Result<(), Error>) -> Result<&[u8], Error>
+    requires { count ≤ length room.now }
+    ensures taken { IfOk result (λ part. part.now ≡ take count room.now) }
+    ensures failed { IsErr end → IsErr result }
 {
-    match file.read(&mut room[from..]) {
-        Ok(count) => whole(false, count, Error::from_raw_os_error(0)),
-        Err(error) => whole(true, 0, error),
-    }
-}
-
-// What counts of the bytes that came, where the last read gave none.
-fn whole(failed: bool, count: usize, error: Error) -> Piece
-    ensures { (result.failed ≡ failed) × (result.count ≡ cond failed 0 count) }
-{
-    if failed {
-        return Piece {
-            failed,
-            count: 0,
-            error,
-        };
-    }
-    Piece {
-        failed,
-        count,
-        error,
-    }
+    end?;
+    Ok(&room[..count])
 }
 
 // Takes as much as there is room for.
-pub fn taken<R: Read>(file: &mut R, room: &mut [u8]) -> Piece
-    ensures prefix_len { IsPrefixLen result.count room.new }
-    ensures count_value { result.failed ≡ true → result.count ≡ 0 }
+pub fn taken<'a, R: Read>(file: &mut R, room: &'a mut [u8]) -> Result<&'a [u8], Error>
+    ensures { IfOk result (λ part. length part.now ≤ length room.old) }
 {
     let mut count = 0;
+    let mut end = Ok(());
     while count < room.len() {
-        let piece = read_on(file, room, count);
-        if piece.count == 0 {
-            return whole(piece.failed, count, piece.error);
+        match file.read(&mut room[count..]) {
+            Ok(0) => break,
+            Ok(more) => count += more,
+            Err(error) => {
+                end = Err(error);
+                break;
+            }
         }
-        count += piece.count;
     }
-    whole(false, count, Error::from_raw_os_error(0))
+    whole(room, count, end)
 }

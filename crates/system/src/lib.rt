@@ -1,12 +1,9 @@
-// What the system says and does of files by their names, a short wait, the words that the program was called with, and standard input and output, whole.
+// What the system says and does of files by their names, the words that the program was called with, and standard input and output, whole.
 #![tactic(auto)]
 
-ghost use Rattle.system.specs.Status.{Status};
-
+use std::fs;
 use std::fs::Metadata;
 use std::io::Error;
-use std::time::Duration;
-use std::{fs, thread};
 
 pub mod input;
 pub mod named;
@@ -18,10 +15,7 @@ const EILSEQ: i32 = 84;
 
 // A name as the library takes it, which opens names in UTF-8 alone. Any other is answered as one that the system does not take.
 pub fn as_text(name: &[u8]) -> Result<&str, Error> {
-    match str::from_utf8(name) {
-        Ok(text) => Ok(text),
-        Err(_) => Err(Error::from_raw_os_error(EILSEQ)),
-    }
+    str::from_utf8(name).map_err(|_| Error::from_raw_os_error(EILSEQ))
 }
 
 // Says what stands at a name: of a link the link itself, or where follows is true what it leads to.
@@ -32,15 +26,4 @@ pub fn known(rt: &HostRuntime, name: &[u8], follows: bool) -> Result<Metadata, E
     } else {
         fs::symlink_metadata(rt, text)
     }
-}
-
-// Waits for some nanoseconds, less than a second; for any other number it answers -1 at once.
-pub fn pause(rt: &HostRuntime, nanoseconds: i64) -> i32
-    ensures { Status result }
-{
-    if nanoseconds < 0 || nanoseconds >= 1000000000 {
-        return -1;
-    }
-    thread::sleep(rt, Duration::from_nanos(nanoseconds as u64));
-    0
 }

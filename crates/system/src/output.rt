@@ -3,7 +3,7 @@ use std::fs;
 use std::fs::File;
 use std::io::{Error, Print};
 
-#[derive(Clone, Copy)]
+#[derive(Clone, Copy, Debug, PartialEq, Eq)]
 pub enum Stream {
     Output,
     Error,
@@ -24,23 +24,14 @@ const OUTPUT: &str = "/proc/self/fd/1";
 const EINVAL: i32 = 22;
 
 fn is_file(rt: &HostRuntime, name: &str) -> bool {
-    match fs::metadata(rt, name) {
-        Ok(found) => found.is_file(),
-        Err(_) => false,
-    }
+    fs::metadata(rt, name).is_ok_and(|found| found.is_file())
 }
 
 // Some file systems know no such call, and say EINVAL.
 pub fn synced(file: &File) -> Result<(), Error> {
     match file.sync_all() {
-        Ok(()) => Ok(()),
-        Err(error) => {
-            if error.raw_os_error() == Some(EINVAL) {
-                Ok(())
-            } else {
-                Err(error)
-            }
-        }
+        Err(error) if error.raw_os_error() == Some(EINVAL) => Ok(()),
+        outcome => outcome,
     }
 }
 
@@ -55,11 +46,8 @@ pub fn settled(rt: &HostRuntime) -> Result<(), Error> {
     }
 }
 
-// Standard output, whole or not at all.
-// Whether all was written. A file system may say only at the end that it had no room.
-pub fn wrote(rt: &HostRuntime, bytes: &[u8]) -> bool {
-    match put(rt, Stream::Output, bytes) {
-        Ok(()) => settled(rt).is_ok(),
-        Err(_) => false,
-    }
+// Standard output, whole or not at all. A file system may say only at the end that it had no room.
+pub fn wrote(rt: &HostRuntime, bytes: &[u8]) -> Result<(), Error> {
+    put(rt, Stream::Output, bytes)?;
+    settled(rt)
 }

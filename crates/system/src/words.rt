@@ -1,36 +1,21 @@
 // The words that the program was called with. The first is the program's own name.
-ghost use Rattle.io.specs.Counts.{IsPrefixLen};
+ghost use Rattle.std.specs.Prelude.{◌≤◌, length, IfSome};
 
 use std::env::FillError;
 use std::rt::Env;
 
-// How many bytes of a room are the word, and whether all of the word is there: else it is longer than the room, or there is none.
-#[derive(Drop)]
-pub struct Held {
-    pub whole: bool,
-    pub count: usize,
-}
-
-// Puts a word at the start of a room. Where it is longer than that, the room has as much of it as there is room for, and none of it counts.
-pub fn word(rt: &HostRuntime, at: usize, room: &mut [u8]) -> Held
-    ensures { IsPrefixLen result.count room.new }
+// A word, put at the start of a room. Where it is longer than that there is none, and the room has as much of it as there is room for.
+pub fn word<'a>(rt: &HostRuntime, at: usize, room: &'a mut [u8]) -> Option<&'a [u8]>
+    ensures { IfSome result (λ word. length word.now ≤ length room.old) }
 {
     match rt.arg(at, room) {
-        Ok(count) => Held { whole: true, count },
-        Err(_) => Held {
-            whole: false,
-            count: 0,
-        },
+        Ok(count) => Some(&room[..count]),
+        Err(_) => None,
     }
 }
 
 fn is_missing(rt: &HostRuntime, at: usize) -> bool {
-    let mut room = [0u8; 1];
-    match rt.arg(at, &mut room) {
-        Ok(_) => false,
-        Err(FillError::TooLong) => false,
-        Err(FillError::NotPresent) => true,
-    }
+    matches!(rt.arg(at, &mut [0u8; 1]), Err(FillError::NotPresent))
 }
 
 // How many words there are.

@@ -6,9 +6,7 @@ use Rattle.std.proofs.lemmas.Bool.{false≢true}
 use Rattle.header.specs.declared.told.Told.{Told}
 use Rattle.header.specs.declared.head.Head.{Head}
 use Rattle.header.specs.HeadLaws.{HeadFacts, lawful_head_facts, same_head_equal, equal_same_head}
-use Rattle.format.specs.declared.reader.Reading.{Reading}
-use Rattle.format.specs.declared.reader.Reading.TheVariants.{Good, Bad}
-use Rattle.format.specs.Reading.{read_of}
+use Rattle.format.specs.Reading.{Reading, Good, Bad, read_of}
 use Rattle.format.specs.ReadingBounds.{good_lawful}
 use Rattle.tray.specs.Tray.{head_for, reads_as, slot_of, usable}
 

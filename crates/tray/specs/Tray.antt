@@ -6,9 +6,7 @@ use Rattle.lists.specs.From.{from}
 use Rattle.header.specs.declared.told.Told.{Told}
 use Rattle.header.specs.declared.head.Head.{Head}
 use Rattle.header.specs.Head.{same_head}
-use Rattle.format.specs.declared.reader.Reading.{Reading}
-use Rattle.format.specs.declared.reader.Reading.TheVariants.{Good, Bad}
-use Rattle.format.specs.Reading.{read_of, shares_of}
+use Rattle.format.specs.Reading.{Reading, Good, Bad, read_of, shares_of}
 
 -- "A tray is n slots, slot number x belonging to keeper x." A slot is 2,048 bytes.
 unfoldable pub slot_of : List ℕ → ℕ → List ℕ

@@ -5,10 +5,9 @@ ghost use Rattle.std.specs.Prelude.{◌≡◌, ◌*◌, ◌≤◌, length};
 ghost use Rattle.tray.specs.Tray.{slot_of, head_for};
 ghost use Rattle.tray.specs.Scan.{Scannable, Scanned};
 
-use format::reader::{Reading, read, take_shares};
-use header::head;
+use format::reader::{read, take_shares};
 use header::head::Head;
-use header::told::Told;
+use header::terms::Terms;
 
 // The slot of keeper x.
 pub fn slot_of(tray: &[u8], x: usize) -> &[u8]
@@ -20,37 +19,34 @@ pub fn slot_of(tray: &[u8], x: usize) -> &[u8]
 }
 
 // The head that keeper x's letter has.
-pub fn head_for(told: Told, stamp: u32, l: usize, x: usize) -> Head
-    ensures { result ≡ head_for told stamp l x }
+pub fn head_for(terms: Terms, x: usize) -> Head
+    ensures { result ≡ head_for terms.told terms.stamp terms.length x }
 {
     Head {
-        told,
+        told: terms.told,
         keeper: x,
-        stamp,
-        length: l,
+        stamp: terms.stamp,
+        length: terms.length,
     }
 }
 
 // The usable keepers of a tray, as a set; their share words go into the rows, 952 words for each keeper.
-pub fn scan(told: Told, stamp: u32, l: usize, tray: &[u8], rows: &mut [u16]) -> u16
-    requires { Scannable told l tray.now rows.old }
-    ensures { Scanned told stamp l tray.now result rows.new }
+pub fn scan(terms: Terms, tray: &[u8], rows: &mut [u16]) -> u16
+    requires { Scannable terms.told terms.length tray.now rows.old }
+    ensures { Scanned terms.told terms.stamp terms.length tray.now result rows.new }
 {
-    let n = told.order.n;
+    let l = terms.length;
     let mut set: u16 = 0;
-    let mut k = 0;
-    while k < n {
+    for k in 0..terms.told.order.n {
         let slot = slot_of(tray, k + 1);
-        let Reading::Good(h) = read(slot) else {
-            k += 1;
+        let Ok(head) = read(slot) else {
             continue;
         };
-        if head::same(h, head_for(told, stamp, l, k + 1)) {
+        if head == head_for(terms, k + 1) {
             let row = 952 * k;
             take_shares(slot, &mut rows[row..row + l]);
-            set = set + (1 << k);
+            set += 1 << k;
         }
-        k += 1;
     }
     set
 }

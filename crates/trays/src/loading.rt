@@ -1,78 +1,41 @@
 // A tray from its folder: what is no slot there is an empty one, and that is said.
-ghost use Rattle.std.specs.Prelude.{◌+◌, ◌*◌, ◌≤◌, ◌≡◌, length};
+ghost use Rattle.std.specs.Prelude.{◌*◌, ◌≡◌, length};
 
 use files::kind::{Kind, seen};
-use files::load::{Got, load};
-use lines::text::put;
+use files::load::{Unread, load};
 use names::slot;
-use saying::line::{four, say};
+use saying::line::Line;
+use saying::status::Status;
 use saying::{refused, trouble};
+use std::fmt::Write;
 
-// Whether a tray is there at all. Says what is wrong where not.
-fn is_tray(rt: &HostRuntime, folder: &[u8]) -> bool {
-    let found = seen(rt, folder, true);
-    let kind = found.kind;
-    match kind {
-        Kind::Folder => true,
-        Kind::Missing => {
-            refused(rt, folder, b"there is no such folder");
-            false
-        }
-        Kind::Unknown(error) => {
-            trouble(rt, folder, b"cannot be looked at", error);
-            false
-        }
-        Kind::File => is_no_tray(rt, folder),
-        Kind::Link => is_no_tray(rt, folder),
-        Kind::Other => is_no_tray(rt, folder),
+// Sees that a tray is there at all.
+fn judge_folder(rt: &HostRuntime, folder: &[u8]) -> Result<(), Status> {
+    match seen(rt, folder, true) {
+        Ok(Some(found)) if found.kind == Kind::Folder => Ok(()),
+        Ok(Some(_)) => Err(refused(
+            rt,
+            folder,
+            b"is no folder, and a tray is one, with the slots 1 .. N in it",
+        )),
+        Ok(None) => Err(refused(rt, folder, b"there is no such folder")),
+        Err(error) => Err(trouble(rt, folder, b"cannot be looked at", error)),
     }
 }
 
-fn is_no_tray(rt: &HostRuntime, folder: &[u8]) -> bool {
-    refused(
-        rt,
-        folder,
-        b"is no folder, and a tray is one, with the slots 1 .. N in it",
-    );
-    false
+fn say_empty(rt: &HostRuntime, name: &[u8], why: &str) {
+    let mut line = Line::new();
+    line.add(name);
+    let _ = write!(line, ": {why}, and counts as an empty slot");
+    line.say(rt);
 }
 
-fn say_empty(rt: &HostRuntime, name: &[u8], why: &[u8]) {
-    let mut out = [0u8; 8192];
-    let count = four(
-        &mut out,
-        b"csalgodes: ",
-        name,
-        why,
-        b", and counts as an empty slot",
-    );
-    say(rt, &mut out, count);
-}
-
-// Fills a slot of the tray from its file, where that has the bytes of one.
-fn load_slot(rt: &HostRuntime, name: &[u8], tray: &mut [u8], at: usize)
-    requires { at + 2048 ≤ length tray.old }
-    ensures { length tray.new ≡ length tray.old }
-{
-    let mut room = [0u8; 2049];
-    let loaded = load(rt, name, true, &mut room);
-    let count = loaded.count;
-    let got = loaded.got;
-    match got {
-        Got::Read => {
-            if count == 2048 {
-                put(tray, at, &room[..count]);
-            } else {
-                say_empty(rt, name, b": has not the 2048 bytes of a slot");
-            }
-        }
-        Got::Missing => {
-            say_empty(rt, name, b": is not there");
-        }
-        Got::NoFile => {
-            say_empty(rt, name, b": is no plain file");
-        }
-        Got::Trouble(error) => {
+// Says why a file counts as an empty slot.
+fn say_unread(rt: &HostRuntime, name: &[u8], why: Unread) {
+    match why {
+        Unread::Missing => say_empty(rt, name, "is not there"),
+        Unread::NoFile => say_empty(rt, name, "is no plain file"),
+        Unread::Trouble(error) => {
             trouble(
                 rt,
                 name,
@@ -83,33 +46,39 @@ fn load_slot(rt: &HostRuntime, name: &[u8], tray: &mut [u8], at: usize)
     }
 }
 
-fn load_keeper(rt: &HostRuntime, folder: &[u8], keeper: u32, tray: &mut [u8], at: usize)
-    requires { at + 2048 ≤ length tray.old }
-    ensures { length tray.new ≡ length tray.old }
+// Fills a slot from its file, where that has the bytes of one.
+fn load_slot(rt: &HostRuntime, name: &[u8], slot: &mut [u8])
+    requires { length slot.old ≡ 2048 }
 {
-    let mut name = io::buffer();
-    let count = slot(folder, keeper, &mut name);
-    if count == 0 {
-        say_empty(rt, folder, b": is too long a name");
-        return;
+    let mut room = [0u8; 2049];
+    match load(rt, name, true, &mut room) {
+        Ok(bytes) if bytes.len() == 2048 => slot.copy_from_slice(bytes),
+        Ok(_) => say_empty(rt, name, "has not the 2048 bytes of a slot"),
+        Err(why) => say_unread(rt, name, why),
     }
-    load_slot(rt, &name[..count], tray, at);
 }
 
-// Fills a tray of n slots from a folder, and answers whether there is such a folder.
-pub fn filled(rt: &HostRuntime, folder: &[u8], n: u32, tray: &mut [u8]) -> bool
+fn load_keeper(rt: &HostRuntime, folder: &[u8], keeper: u32, letter: &mut [u8])
+    requires { length letter.old ≡ 2048 }
+{
+    let mut room = io::buffer();
+    match slot(folder, keeper, &mut room) {
+        Some(name) => load_slot(rt, name, letter),
+        None => say_empty(rt, folder, "is too long a name"),
+    }
+}
+
+// Fills a tray of n slots from a folder, if there is such a folder.
+pub fn filled(rt: &HostRuntime, folder: &[u8], n: u32, tray: &mut [u8]) -> Result<(), Status>
     requires { length tray.old ≡ 2048 * n }
 {
     if n == 0 {
-        return true;
+        return Ok(());
     }
-    if !is_tray(rt, folder) {
-        return false;
+    judge_folder(rt, folder)?;
+    for k in 0..n {
+        let at = 2048 * k as usize;
+        load_keeper(rt, folder, k + 1, &mut tray[at..at + 2048]);
     }
-    let mut k: u32 = 0;
-    while k < n {
-        load_keeper(rt, folder, k + 1, tray, 2048 * k as usize);
-        k += 1;
-    }
-    true
+    Ok(())
 }

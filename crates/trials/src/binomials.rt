@@ -19,6 +19,5 @@ pub fn choose(m: usize, k: usize) -> u32
     requires k_small { k ≤ 8 }
     ensures { (result ≡ choose m k) × (result ≤ 12870) }
 {
-    let binomials = BINOMIALS;
-    binomials[9 * m + k]
+    BINOMIALS[9 * m + k]
 }

@@ -13,41 +13,41 @@ ghost use Rattle.trials.specs.Trials.{trials};
 ghost use Rattle.trials.specs.Within.{within};
 
 use crate::binomials::choose;
-use search::keepers::has;
+use search::keepers::KeeperSet;
 
 mod binomials;
 
 // Goes on past keeper `next`, where so many usable keepers are left and a set lacks so many of t + 1: each of them is included or skipped.
-fn counted(usable: u16, set: u16, lack: usize, next: usize, many: usize) -> u32
-    requires { Counting usable set lack next many }
-    ensures { result ≡ place (member set) (left usable next) lack }
+fn counted(usable: KeeperSet, set: KeeperSet, lack: usize, next: usize, many: usize) -> u32
+    requires { Counting usable.bits set.bits lack next many }
+    ensures { result ≡ place (member set.bits) (left usable.bits next) lack }
 {
     if lack == 0 {
         return 1;
     }
-    if !has(usable, next) {
+    if !usable.has(next) {
         return counted(usable, set, lack, next + 1, many);
     }
-    if has(set, next) {
+    if set.has(next) {
         return counted(usable, set, lack - 1, next + 1, many - 1);
     }
     choose(many - 1, lack - 1) + counted(usable, set, lack, next + 1, many - 1)
 }
 
 // How many sets of t + 1 usable keepers are tried, in dictionary order, up to and including the first that lies within a set.
-pub fn trials_within(usable: u16, set: u16, t: usize) -> u32
+pub fn trials_within(usable: KeeperSet, set: KeeperSet, t: usize) -> u32
     requires t_small { t ≤ 7 }
-    requires enough { t + 1 ≤ count (member set) (chosen (member usable) (from 1 16)) }
-    ensures { result ≡ trials (within (member set)) (sets (chosen (member usable) (from 1 16)) (t + 1)) }
+    requires enough { t + 1 ≤ count (member set.bits) (chosen (member usable.bits) (from 1 16)) }
+    ensures { result ≡ trials (within (member set.bits)) (sets (chosen (member usable.bits) (from 1 16)) (t + 1)) }
 {
-    let many = u16::count_ones(usable) as usize;
+    let many = usable.count() as usize;
     counted(usable, set, t + 1, 0, many)
 }
 
 // How many sets of t + 1 usable keepers there are.
-pub fn all_sets(usable: u16, t: usize) -> u32
+pub fn all_sets(usable: KeeperSet, t: usize) -> u32
     requires { t ≤ 7 }
-    ensures { result ≡ length (sets (chosen (member usable) (from 1 16)) (t + 1)) }
+    ensures { result ≡ length (sets (chosen (member usable.bits) (from 1 16)) (t + 1)) }
 {
-    choose(u16::count_ones(usable) as usize, t + 1)
+    choose(usable.count() as usize, t + 1)
 }

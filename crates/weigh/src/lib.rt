@@ -15,14 +15,11 @@ pub fn factor_of(points: &[u16], a: u16, x: u16) -> u16
 {
     let mut above: u16 = 1;
     let mut below: u16 = 1;
-    let mut i = 0;
-    while i < points.len() {
-        let b = points[i];
+    for &b in points {
         if a != b {
             above = mul(sub(x, b), above);
             below = mul(sub(a, b), below);
         }
-        i += 1;
     }
     mul(above, reciprocal(below))
 }
@@ -34,12 +31,9 @@ pub fn carry_word(points: &[u16], words: &[u16], x: u16) -> u16
     ensures { result ≡ carried mod257 points.now (λ a. get_or words.now (a - 1) 0) x }
 {
     let mut sum: u16 = 0;
-    let mut i = 0;
-    while i < points.len() {
-        let a = points[i];
-        let word = words[a as usize - 1];
+    for &a in points {
+        let word = words[usize::from(a) - 1];
         sum = add(sum, mul(word, factor_of(points, a, x)));
-        i += 1;
     }
     sum
 }
@@ -49,10 +43,8 @@ pub fn add_row(sums: &mut [u32], row: &[u16], factor: u16)
     requires { Addition sums.old row.now factor }
     ensures { sums.new ≡ listed (λ i. get_or sums.old i 0 + get_or row.now i 0 * factor) (length sums.old) }
 {
-    let mut i = 0;
-    while i < sums.len() {
-        sums[i] = sums[i] + (row[i] as u32) * (factor as u32);
-        i += 1;
+    for (i, sum) in sums.iter_mut().enumerate() {
+        *sum += u32::from(row[i]) * u32::from(factor);
     }
 }
 
@@ -61,10 +53,8 @@ pub fn reduce(sums: &[u32], row: &mut [u16])
     requires { length sums.now ≡ length row.old }
     ensures { row.new ≡ listed (λ i. get_or sums.now i 0 % 257) (length sums.now) }
 {
-    let mut i = 0;
-    while i < row.len() {
-        row[i] = (sums[i] % 257) as u16;
-        i += 1;
+    for (i, word) in row.iter_mut().enumerate() {
+        *word = (sums[i] % 257) as u16;
     }
 }
 
@@ -75,16 +65,13 @@ pub fn carry_row(points: &[u16], rows: &[u16], x: u16, row: &mut [u16])
 {
     let mut sums = [0u32; 952];
     let size = row.len();
-    let mut j = 0;
-    while j < points.len() {
-        let a = points[j];
-        let at = 952 * (a as usize - 1);
+    for &a in points {
+        let at = 952 * (usize::from(a) - 1);
         add_row(
             &mut sums[..size],
             &rows[at..at + size],
             factor_of(points, a, x),
         );
-        j += 1;
     }
     reduce(&sums[..size], row);
 }

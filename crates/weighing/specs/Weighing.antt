@@ -9,7 +9,7 @@ use Rattle.format.specs.Letter.{letter_bytes}
 use Rattle.format.specs.Reading.{shares_of}
 use Rattle.tray.specs.Tray.{slot_of, head_for}
 use Rattle.moving.specs.declared.terms.Move.{Move}
-use Rattle.sub_letters.specs.declared.judging.Weighing.{Weighing}
+use Rattle.sub_letters.specs.Judging.{Weighing}
 use Rattle.sub_letters.specs.Judging.{weigh_answer}
 use Rattle.sub_letters.specs.Subs.{froms_of}
 

@@ -6,7 +6,7 @@ use borrow.Author.Tests.{ne_eqb}
 use Rattle.algebra.specs.Field.{Ops}
 use Rattle.moving.specs.declared.terms.Move.{Move}
 use Rattle.moving.specs.Lent.{MoveTerms}
-use Rattle.sub_letters.specs.declared.judging.Weighing.{Weighing}
+use Rattle.sub_letters.specs.Judging.{Weighing}
 use Rattle.sub_letters.specs.Lent.{SubsLent}
 use Rattle.weighing.specs.Lent.{Weighable}
 use Rattle.sub_letters.specs.Subs.{froms_of}

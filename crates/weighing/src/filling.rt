@@ -19,11 +19,9 @@ fn weigh_rows(froms: &[u16], letters: &[u8], row: &mut [u16])
 {
     let mut sums = [0u32; 952];
     let size = row.len();
-    let mut k = 0;
-    while k < froms.len() {
+    for (k, from) in froms.iter().enumerate() {
         take_shares(slot_of(letters, k + 1), row);
-        add_row(&mut sums[..size], row, factor_of(froms, froms[k], 0));
-        k += 1;
+        add_row(&mut sums[..size], row, factor_of(froms, *from, 0));
     }
     reduce(&sums[..size], row);
 }
@@ -37,5 +35,5 @@ pub fn fill(m: Move, froms: &[u16], keeper: usize, letters: &[u8], row: &mut [u1
     ensures { slot.new ≡ weighed_letter mod257 m keeper letters.now (length froms.now) }
 {
     weigh_rows(froms, letters, row);
-    write(head_for(m.told, m.stamp, m.length, keeper), row, slot);
+    write(head_for(m.terms(), keeper), row, slot);
 }

@@ -1,8 +1,7 @@
 -- The code's table is the one of the definition.
-use Rattle.std.proofs.Common.{refl}
 use Rattle.field.specs.Modulo.{reciprocals}
 use Rattle.field.proofs.reciprocal.Goals as goal
 
 pub returns : goal.returns
 unfolding reciprocals
-returns c = refl
+returns c = rw c.from.ensures

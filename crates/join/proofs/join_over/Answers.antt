@@ -4,8 +4,8 @@ use Rattle.join.specs.RefusalLaws.{accepted_facts}
 use Rattle.join.specs.Scanned.{scanned_done}
 use Rattle.join.proofs.join_over.Goals as goal
 
-pub scan-usable-requires : goal.scan-usable-requires
-scan-usable-requires c =
+pub scan-requires : goal.scan-requires
+scan-requires c =
     let f = accepted_facts _ _ _ _ _ c.requires.not_refused in
     record { few = f.of_terms.of_told.of_order.n_most; short = f.of_terms.length_most; slots = f.tray_lent; room = c.requires.rows.whole; clean = c.requires.rows.words }
 
@@ -20,8 +20,7 @@ judge-requires-clause-room_small c = let f = accepted_facts _ _ _ _ _ c.requires
 
 pub returns : goal.returns
 returns c =
-    let a = c.args in
-    let scan = c.scan-usable in (
-      scanned_done a.told a.stamp a.l a.tray.now scan.result scan.new.rows scan.ensures c.requires.not_refused c.judge.ensures,
-      record { whole = scan.ensures.size; words = scan.ensures.below },
+    let a = c.args in (
+      scanned_done a.terms.told a.terms.stamp a.terms.length a.tray.now c.scan.result c.scan.new.rows c.scan.ensures c.requires.not_refused c.judge.ensures,
+      record { whole = c.scan.ensures.size; words = c.scan.ensures.below },
     )

@@ -1,29 +1,20 @@
--- `report_text::report_picked` meets its contract: by the pick's number there is only an answer, or the group picked is joined.
+-- `report_text::report_picked` meets its contract: with what the pick says there is only an answer, or the group picked is joined.
 -- Assumes nothing.
-use Rattle.std.proofs.Common.{List, ℕ, ◌≤◌, ◌-◌, ◌≡◌, sym, ◌∙◌, length, take, drop}
-use Rattle.report_text.proofs.Reporting.{PickedOf, unpicked_reported, joined_reported, all_of}
+use Rattle.std.proofs.Common.{sym, ap, ◌∙◌}
+use Rattle.refusals.specs.Numbers.{code_of}
+use Rattle.report_text.proofs.Reporting.{unpicked_reported, joined_reported}
 use Rattle.report_text.specs.PickedLaws.{picked_joinable}
-use Rattle.report_text.specs.Report.{told_in}
-use Rattle.field.specs.Modulo.{mod257}
-use Rattle.header.specs.declared.told.Told.{Told}
-use Rattle.pick.specs.declared.Picked.{Picked}
-use Rattle.pick.specs.Pick.{PickDone}
 use Rattle.report_text.proofs.report_picked.Goals as goal
 
--- what was picked of the input behind its order and its key
-picked_of : (input : List ℕ) {told : Told} {p : Picked} → 4 ≤ length input → told ≡ told_in input → PickDone mod257 told (take (length input - 4) (drop 4 input)) p
-    → PickedOf input told (take (length input - 4) (drop 4 input)) p
-picked_of input room is done = record { whole = room; of = is; in_it = all_of input 4; pick = done }
+pub report_joined-requires : goal.report_joined-requires
+report_joined-requires c = picked_joinable c.pick-picked.ensures (sym c.has_lines.ensures ∙ c.if-not-has_lines.false)
 
-pub report_joined-requires-clause-joinable : goal.report_joined-requires-clause-joinable
-report_joined-requires-clause-joinable c = picked_joinable c.pick-picked.ensures (sym c.has_lines.ensures ∙ c.if-has_lines.true)
-
-pub returns-then-has_lines : goal.returns-then-has_lines
-returns-then-has_lines c =
-    joined_reported (picked_of c.args.input.now c.requires.input_room c.requires.told_is c.pick-picked.ensures)
-    (sym c.has_lines.ensures ∙ c.if-has_lines.true) c.report_joined.ensures
+pub returns-then-not-has_lines : goal.returns-then-not-has_lines
+returns-then-not-has_lines c =
+    unpicked_reported c.requires.input_room c.requires.told_is c.pick-picked.ensures
+    (sym c.has_lines.ensures ∙ c.if-not-has_lines.true) (ap code_of c.alone.ensures.outcome) c.alone.ensures.text
 
 pub returns : goal.returns
 returns c =
-    unpicked_reported (picked_of c.args.input.now c.requires.input_room c.requires.told_is c.pick-picked.ensures)
-    (sym c.has_lines.ensures ∙ c.if-has_lines.false) c.answer_alone.ensures
+    joined_reported c.requires.input_room c.requires.told_is c.pick-picked.ensures
+    (sym c.has_lines.ensures ∙ c.if-not-has_lines.false) c.report_joined.ensures

@@ -14,7 +14,7 @@ met : {usable set lack next many : ℕ} {has : Bool} → Counting usable set lac
 met counting lacks is of = record { counting = counting; lacks = lacks; of = sym is ∙ of }
 
 pub returns-then-lack-eq0 : goal.returns-then-lack-eq0
-returns-then-lack-eq0 t c = place_done _ (left c.args.usable c.args.next) _ c.if-lack-eq0.true
+returns-then-lack-eq0 t c = place_done _ (left c.args.usable.bits c.args.next) _ c.if-lack-eq0.true
 
 pub has-requires : goal.has-requires
 has-requires t c = one_left c.requires c.if-lack-eq0.false

@@ -13,9 +13,9 @@ counted-requires c =
     record {
       small = omega (arith, c.requires.t_small);
       bound = omega arith;
-      size = usable_many_lem c.args.usable c.ranges.usable.fits;
+      size = c.count-many.ensures ∙ usable_many_lem c.args.usable.bits (omega arith);
       enough = omega (arith, c.requires.enough);
     }
 
 pub returns : goal.returns
-returns c = c.counted.ensures ∙ place-trials (member c.args.set) (chosen (member c.args.usable) (from 1 16)) (c.args.t + 1) c.requires.enough
+returns c = c.counted.ensures ∙ place-trials (member c.args.set.bits) (chosen (member c.args.usable.bits) (from 1 16)) (c.args.t + 1) c.requires.enough

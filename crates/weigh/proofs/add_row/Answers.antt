@@ -1,6 +1,6 @@
 -- `weigh::add_row` meets its contract: turn by turn the sums' front has the row's words times the factor added, and the rest is as it was.
 -- Assumes nothing.
-use Rattle.std.proofs.Common.{ℕ, suc, ◌+◌, ◌*◌, ◌≤◌, ◌<◌, ◌≡◌, refl, List, ◌++◌, mul-le-mul, arith, length, drop, get_or, length-set, drop-cons, rules}
+use Rattle.std.proofs.Common.{ℕ, suc, ◌+◌, ◌*◌, ◌≤◌, ◌<◌, ◌≡◌, refl, List, ◌++◌, mul-le-mul, arith, length, drop, get_or, length-set, drop-cons}
 use Rattle.std.proofs.lemmas.List.{get_or_at}
 use Rattle.lists.specs.Listed.{listed, length-listed, set-listed}
 use Rattle.weigh.specs.Weigh.{Addition}
@@ -23,13 +23,13 @@ module _ {sums row : List ℕ} {times : ℕ} (given : Addition sums row times) (
 
 pub loop-i-init : goal.loop-i-init
 unfolding listed
-loop-i-init c = (search rules, refl, refl)
+loop-i-init c = (refl, refl)
 
-pub overflow_add-sums : goal.overflow_add-sums
-overflow_add-sums c =
+pub overflow_add-sum : goal.overflow_add-sum
+overflow_add-sum c =
     let here = c.loop-i in
     let e = sum_le c.requires here.i (omega arith) in
-    rw here.invariant.2 (omega arith)
+    rw (here.invariant.1, c.from.ensures, c.from-in-loop-i.ensures) (omega arith)
 
 pub loop-i-preserved : goal.loop-i-preserved
 loop-i-preserved c =
@@ -37,7 +37,6 @@ loop-i-preserved c =
     let args = c.args in
     let f = added args.sums.now args.row.now args.factor in
     let within : here.i < length args.sums.now = omega arith in (
-      omega arith,
-      simp length-set here.invariant.1,
-      rw (here.invariant.2, behind f here.i args.sums.now within) (set-listed f here.i args.sums.now within),
+      simp length-set here.invariant.0,
+      rw (here.invariant.1, c.from.ensures, c.from-in-loop-i.ensures, behind f here.i args.sums.now within) (set-listed f here.i args.sums.now within),
     )

@@ -1,35 +1,32 @@
 -- `weighing::weigh` meets its contract: what is told and lent is judged first, and then the sub-letters.
 -- Assumes nothing.
-use Rattle.std.proofs.Common.{ℕ, List, ◌≡◌, sym, ◌∙◌, length-take-le}
-use Rattle.moving.specs.declared.terms.Move.{Move}
-use Rattle.sub_letters.specs.Judging.{weigh_refusal}
-use Rattle.sub_letters.specs.JudgingLaws.{WeighRight, weigh_right}
+use Rattle.std.proofs.Common.{◌≡◌, sym, ◌∙◌, rules}
+use Rattle.refusals.specs.Numbers.{code, code_some}
+use Rattle.sub_letters.specs.Judging.{only, weighing_of}
+use Rattle.sub_letters.specs.JudgingLaws.{weigh_right}
 use Rattle.weighing.specs.WeighingLaws.{weigh_refused}
 use Rattle.weighing.proofs.weigh.Goals as goal
 
-right : {number : ℕ} {m : Move} {keepers : List ℕ} {keeper : ℕ} {letters slot : List ℕ} → number ≡ weigh_refusal m keepers keeper letters slot → number ≡ 0 → WeighRight m keepers keeper letters slot
-right is zero = weigh_right _ _ _ _ _ (sym is ∙ zero)
+pub returns-in_err-judge_told : goal.returns-in_err-judge_told
+returns-in_err-judge_told c =
+    let refusal = c.in_err-judge_told.field-0.0 in
+    let is : weighing_of c.from_residual.result ≡ only (code refusal) = search rules in
+    weigh_refused _ _ _ _ _ c.in_err-judge_told.ensures (code_some refusal) is
 
-pub returns-then-number-ne0 : goal.returns-then-number-ne0
-returns-then-number-ne0 c = weigh_refused _ _ _ _ _ c.refusal-number.ensures c.if-number-ne0.true c.alone.ensures
+pub words_of-told-requires : goal.words_of-told-requires
+words_of-told-requires c =
+    let right = weigh_right _ _ _ _ _ (sym c.in_ok-judge_told.ensures) in
+    record { few = right.lent.few; below = right.small }
 
--- eight old keepers are the most
-pub slice_bounds-told-end : goal.slice_bounds-told-end
-slice_bounds-told-end c = (right c.refusal-number.ensures c.if-number-ne0.false).lent.few
+pub froms_of-froms-requires : goal.froms_of-froms-requires
+froms_of-froms-requires c = (weigh_right _ _ _ _ _ (sym c.in_ok-judge_told.ensures)).lent
 
-pub slice_bounds-weigh_lent-end : goal.slice_bounds-weigh_lent-end
-slice_bounds-weigh_lent-end c = sym (length-take-le _ _ (right c.refusal-number.ensures c.if-number-ne0.false).lent.few)
-
-pub slice_bounds-froms-end : goal.slice_bounds-froms-end
-slice_bounds-froms-end c = (right c.refusal-number.ensures c.if-number-ne0.false).lent.few
-
-pub slice_bounds-weigh_lent-end-2 : goal.slice_bounds-weigh_lent-end-2
-slice_bounds-weigh_lent-end-2 c = sym (length-take-le _ _ (right c.refusal-number.ensures c.if-number-ne0.false).lent.few)
-
-pub weigh_lent-requires : goal.weigh_lent-requires
-weigh_lent-requires c =
-    let few = (right c.refusal-number.ensures c.if-number-ne0.false).lent.few in
-    record { right = sym c.refusal-number.ensures ∙ c.if-number-ne0.false; told_room = length-take-le _ _ few; froms_room = length-take-le _ _ few }
+pub weigh_told-requires : goal.weigh_told-requires
+weigh_told-requires c =
+    record {
+      right = rw c.words_of-told.ensures (sym c.in_ok-judge_told.ensures);
+      named = c.froms_of-froms.ensures ∙ rw c.words_of-told.ensures;
+    }
 
 pub returns : goal.returns
-returns c = c.weigh_lent.ensures
+returns c = rw c.words_of-told.ensures at c.weigh_told.ensures

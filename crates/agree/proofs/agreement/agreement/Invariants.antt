@@ -7,8 +7,8 @@ use Rattle.lists.specs.KeeperSet.{member}
 use Rattle.weigh.specs.Weigh.{row_word}
 use Rattle.agree.proofs.agreement.agreement.Given as goal
 
-abbrev pub invariant-loop-i : goal.invariant-loop-i
-invariant-loop-i l = (l.i ≤ l.l) × Kept mod257 l.t l.f 16 (member l.usable) (row_word l.rows) l.l l.set l.i
+abbrev pub invariant-words : goal.invariant-words
+invariant-words l = (l.start ≤ l.l) × Kept mod257 l.t l.f 16 (member l.fn.usable.bits) (row_word l.rows) l.l l.set.bits l.start
 
-abbrev pub decreases-loop-i : goal.decreases-loop-i
-decreases-loop-i l = l.l - l.i
+abbrev pub decreases-words : goal.decreases-words
+decreases-words l = l.l - l.start

@@ -7,10 +7,10 @@ use Rattle.agree.proofs.agreement.column.Goals as goal
 
 pub loop-k-init : goal.loop-k-init
 unfolding listed
-loop-k-init c = (search rules, refl)
+loop-k-init c = refl
 
 pub loop-k-preserved : goal.loop-k-preserved
 loop-k-preserved c =
     let here = c.loop-k in
     let a = c.args in
-    (search rules, ap (λ (w : List ℕ). set w here.k (at a.rows.now a.i here.k)) here.invariant.1 ∙ set-listed (at a.rows.now a.i) here.k _ (search rules))
+    ap (λ (w : List ℕ). set w here.k (at a.rows.now a.i here.k)) here.invariant ∙ set-listed (at a.rows.now a.i) here.k _ (search rules)

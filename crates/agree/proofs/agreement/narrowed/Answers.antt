@@ -27,11 +27,14 @@ module _ (rows : List ℕ) (i : ℕ) (words : List ℕ) (e : words ≡ listed (�
       let b = from_in 1 16 x m in
       ap (λ (w : List ℕ). get_or w (x - 1) 0) e ∙ get_d_listed (λ k. get_or rows (952 * k + i) 0) 16 (x - 1) (omega arith)
 
-pub search-requires : goal.search-requires
-unfolding ones
-search-requires c = (column_words c.args.rows.now c.args.i c.column-words.result c.column-words.ensures c.requires.rows, omega arith)
+pub invariant_of-search-clause-whole : goal.invariant_of-search-clause-whole
+invariant_of-search-clause-whole c = column_words c.args.rows.now c.args.i c.column-words.result c.column-words.ensures c.requires.rows
 
-pub returns : goal.returns
-returns c =
+pub past-requires : goal.past-requires
+unfolding ones
+past-requires c = record { small = omega arith; enough = omega arith; before = omega arith; within = omega arith; lacks = omega arith }
+
+pub returns-clause-narrows : goal.returns-clause-narrows
+returns-clause-narrows c =
     narrows_same _ (column_word c.args.rows.now c.args.i c.column-words.result c.column-words.ensures)
-    (search_whole (omega (arith, ones-member 16 c.args.set c.ranges.set.fits)) c.search.ensures)
+    (search_whole (omega (arith, ones-member 16 c.args.set.bits (omega arith))) c.past.ensures.searched)

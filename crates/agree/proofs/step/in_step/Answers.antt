@@ -5,7 +5,7 @@ use Rattle.agree.proofs.Comparing.{comparing_start, comparing_carriage, comparin
 use Rattle.agree.proofs.step.in_step.Goals as goal
 
 pub loop-k-init : goal.loop-k-init
-loop-k-init c = comparing_start c.requires.rows c.first-base.result _ refl c.requires.bounds.0 c.first-base.ensures
+loop-k-init c = rw c.from-k.ensures (comparing_start c.requires.rows c.first-base.result _ refl c.requires.bounds.0 c.first-base.ensures)
 
 pub row_in_step-end-requires-clause-carriage : goal.row_in_step-end-requires-clause-carriage
 row_in_step-end-requires-clause-carriage c = let i = c.loop-k.invariant in comparing_carriage c.requires.rows i c.requires.t_small c.requires.bounds.1

@@ -1,30 +1,21 @@
--- `block::bounds::exchanged_within` meets its contract: the largest word so far tells of all so far.
+-- `block::bounds::exchanged_within` meets its contract: the largest word tells of all of them.
 -- Assumes nothing.
-use Rattle.std.proofs.Common.{◌≤◌, ◌<◌, max, ◌≡◌, sym, ap, ◌∙◌, arith, length, get_or, take_all, rules}
-use Rattle.block.specs.AtMostLaws.{largest_none, largest_more}
-use Rattle.block.specs.Check.{all_at_most}
-use Rattle.block.specs.ExchangedLaws.{exchanged-word}
+use Rattle.std.proofs.Common.{ℕ, ◌≡◌, ◌∙◌, arith, max, rules, fold, map, length, get_or, List, ◌<◌}
+use Rattle.std.proofs.lemmas.List.{length-map, get_or-map}
+use Rattle.std.proofs.lemmas.List.Folds.{fold-map}
+use Rattle.std.specs.Int.{w16, swap_bytes}
+use Rattle.block.specs.AtMostLaws.{largest_at_most}
 use Rattle.block.specs.Words.{exchanged, exchanged_all}
-use Rattle.lists.specs.Listed.{length-listed}
+use Rattle.lists.specs.Listed.{listed_is}
 use Rattle.block.proofs.bounds.exchanged_within.Goals as goal
 
-pub loop-i-init : goal.loop-i-init
-loop-i-init c = (search rules, largest_none (exchanged_all c.args.row.now))
-
-pub loop-i-preserved : goal.loop-i-preserved
-loop-i-preserved c =
-    let here = c.loop-i in
-    let row = c.args.row.now in
-    let words = exchanged_all row in
-    let inside : here.i < length words = omega (arith, length-listed (λ k. exchanged (get_or row k 0)) (length row)) in
-    let read : c.larger-largest.result ≡ max here.largest (get_or words here.i 0)
-    = rw (exchanged-word row here.i (search rules), ← c.exchanged.ensures) c.larger-largest.ensures in
-    (search rules, largest_more words here.i here.largest c.larger-largest.result inside read here.invariant.1)
+swapped : (row : List ℕ) → ((k : ℕ) → get_or row k 0 < 65536) → map (swap_bytes w16) row ≡ exchanged_all row
+swapped row small =
+    listed_is (λ k. exchanged (get_or row k 0)) (length row) (map (swap_bytes w16) row) (length-map row (swap_bytes w16))
+    (λ k h. get_or-map (swap_bytes w16) row k 0 0 h ∙ omega (arith, small k))
 
 pub returns : goal.returns
 returns c =
-    let here = c.loop-i in
-    let args = c.args in
-    let row = args.row.now in
-    let all : length (exchanged_all row) ≤ here.i = omega (arith, length-listed (λ k. exchanged (get_or row k 0)) (length row)) in
-    sym (here.invariant.1 args.top) ∙ ap (all_at_most args.top) (take_all here.i (exchanged_all row) all)
+    let row = c.args.row.now in
+    let found : c.fold.result ≡ fold (λ m w. max (swap_bytes w16 w) m) 0 row = search rules in
+    rw (found, ← swapped row (λ k. omega (arith, c.type_inv.row k)), ← largest_at_most, fold-map (λ m w. max w m) (swap_bytes w16) 0 row)

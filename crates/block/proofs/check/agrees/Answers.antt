@@ -1,31 +1,16 @@
--- `block::check::agrees` meets its contract: the two tests of the code are the two of the definition, since the sums are its check words.
+-- `block::check::agrees` meets its contract: the two words after the row's others, exchanged back, are compared with the two of the definition.
 -- Assumes nothing.
-use Rattle.std.proofs.Common.{rules, eq-eqb, ne_eqb}
+use Rattle.std.proofs.Common.{◌≡◌, arith, get_or}
+use Rattle.std.proofs.Math.Bool.{and-true}
 use Rattle.block.specs.Check.{checked}
 use Rattle.block.specs.ExchangedLaws.{exchanged-word}
-use Rattle.block.specs.Weights.{weights}
+use Rattle.block.specs.Words.{exchanged_all}
 use Rattle.block.proofs.check.agrees.Goals as goal
 
-pub sums-s-requires : goal.sums-s-requires
-unfolding weights
-sums-s-requires c = search rules
-
-pub returns-then-exchanged-s : goal.returns-then-exchanged-s
+pub returns : goal.returns
 unfolding checked
-returns-then-exchanged-s c =
+returns c =
     let row = c.args.row.now in
-    rw (
-      exchanged-word row 254 (search rules),
-      exchanged-word row 255 (search rules),
-      ← c.exchanged.ensures,
-      ← c.exchanged-then-exchanged-s.ensures,
-      ← c.sums-s.ensures.0,
-      ← c.sums-s.ensures.1,
-      eq-eqb _ _ c.if-exchanged-s.true,
-    )
-
-pub returns-else-exchanged-s : goal.returns-else-exchanged-s
-unfolding checked
-returns-else-exchanged-s c =
-    let row = c.args.row.now in
-    rw (exchanged-word row 254 (search rules), ← c.exchanged.ensures, ← c.sums-s.ensures.0, ne_eqb _ _ c.if-exchanged-s.false)
+    let plain : c.swap_bytes.result ≡ get_or (exchanged_all row) 254 0 = omega (arith, exchanged-word row 254 (omega arith), c.type_inv.row 254) in
+    let weighted : c.swap_bytes-2.result ≡ get_or (exchanged_all row) 255 0 = omega (arith, exchanged-word row 255 (omega arith), c.type_inv.row 255) in
+    rw (c.eq.ensures, c.check_words.ensures, plain, weighted, and-true)

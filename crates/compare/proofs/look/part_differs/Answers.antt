@@ -1,19 +1,18 @@
 -- `compare::look::part_differs` meets its contract: the parts lent are sixteen bytes long.
 -- Assumes nothing.
-use Rattle.std.proofs.Common.{◌+◌, ◌-◌, ◌*◌, ◌≡◌, sym, ◌∙◌, arith}
+use Rattle.std.proofs.Common.{◌+◌, ◌-◌, ◌*◌, ◌≡◌, refl, ◌∙◌, Bool, true, false, arith}
+use Rattle.lists.specs.Count.{bit}
 use Rattle.compare.specs.Parts.{part_differs}
+use Rattle.std.specs.Int.{from_bool}
 use Rattle.compare.proofs.look.part_differs.Goals as goal
 
-pub returns-then-same : goal.returns-then-same
-unfolding part_differs
-returns-then-same c =
-    let at = 16 * c.args.p in
-    let whole : at + 16 - at ≡ 16 = omega arith in
-    rw (rw whole at (sym c.same.ensures ∙ c.if-same.true))
+one_byte : (b : Bool) → from_bool b ≡ bit b
+one_byte true = refl
+one_byte false = refl
 
-pub returns-else-same : goal.returns-else-same
+pub returns : goal.returns
 unfolding part_differs
-returns-else-same c =
+returns c =
     let at = 16 * c.args.p in
     let whole : at + 16 - at ≡ 16 = omega arith in
-    rw (rw whole at (sym c.same.ensures ∙ c.if-same.false))
+    c.from.ensures ∙ rw (rw whole at c.same.ensures) (one_byte _)

@@ -25,13 +25,10 @@ loop-j-preserved c =
       | else-not-same_word w ↦ counted_skipped here.invariant (omega arith) (differs-told _ _ _ (answer ∙ w.if-not-same_word.false)) w.count-is
     ]
 
-pub overflow_cast-result : goal.overflow_cast-result
-overflow_cast-result c = omega (arith, counted_most c.loop-j.invariant)
-
 pub returns : goal.returns
 unfolding in_part
 returns c =
     let here = c.loop-j in
     let args = c.args in
     let all : here.j ≡ 8 = omega arith in
-    here.invariant.counted ∙ ap (λ k. length (chosen (differs args.first.now args.second.now) (from (8 * args.p) k))) all
+    c.from.ensures ∙ here.invariant.counted ∙ ap (λ k. length (chosen (differs args.first.now args.second.now) (from (8 * args.p) k))) all

@@ -1,6 +1,6 @@
 -- `cut::secret::put_bytes` meets its contract: the row is filled from the front with the secret.
 -- Assumes nothing.
-use Rattle.std.proofs.Common.{arith, rules}
+use Rattle.std.proofs.Common.{arith}
 use Rattle.lists.specs.Filling.{filling_none, filling_more, filling_copied}
 use Rattle.cut.proofs.secret.put_bytes.Goals as goal
 
@@ -8,7 +8,7 @@ pub loop-i-init : goal.loop-i-init
 loop-i-init c = filling_none
 
 pub loop-i-preserved : goal.loop-i-preserved
-loop-i-preserved c = filling_more c.loop-i.invariant (search rules) c.wide.ensures
+loop-i-preserved c = filling_more c.loop-i.invariant (omega arith) c.from.ensures
 
 pub returns : goal.returns
 returns c = filling_copied c.loop-i.invariant c.requires (omega arith)

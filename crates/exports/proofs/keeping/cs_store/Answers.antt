@@ -6,4 +6,4 @@ use Rattle.exports.proofs.keeping.cs_store.Goals as goal
 
 pub overflow_cast-result : goal.overflow_cast-result
 overflow_cast-result c =
-    omega (arith, c.store-stored.ensures.place, small_store_place c.as_told.result c.args.keeper c.args.held.now c.args.letter.now)
+    omega (arith, c.in-Err.ensures.place, small_store_place c.as_told.result c.args.keeper c.args.held.now c.args.letter.now)

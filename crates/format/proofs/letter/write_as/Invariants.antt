@@ -1,11 +1,7 @@
 -- `format::letter::write_as` meets its contract, block by block, over zeros.
 -- Assumes nothing.
-use Rattle.std.proofs.Common.{◌-◌}
 use Rattle.format.proofs.Writing.{WrittenTo}
 use Rattle.format.proofs.letter.write_as.Given as goal
 
 abbrev pub invariant-loop-p : goal.invariant-loop-p
-invariant-loop-p l = WrittenTo l.mark l.from l.h l.shares l.count l.slot l.p
-
-abbrev pub decreases-loop-p : goal.decreases-loop-p
-decreases-loop-p l = l.count - l.p
+invariant-loop-p l = WrittenTo l.mark l.from l.h l.shares l.p-end l.slot l.p

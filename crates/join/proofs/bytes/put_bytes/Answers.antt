@@ -5,7 +5,7 @@ use Rattle.block.specs.AtMostLaws.{at_most_below}
 use Rattle.lists.specs.Below.{Below}
 use Rattle.join.proofs.bytes.put_bytes.Goals as goal
 
-pub overflow_cast-byte : goal.overflow_cast-byte
-overflow_cast-byte c =
+pub overflow_cast-room : goal.overflow_cast-room
+overflow_cast-room c =
     let below : Below 256 c.args.words.now = at_most_below 255 c.args.words.now c.requires.bytes in
     omega arith

@@ -1,11 +1,10 @@
--- `numerals::list::part_at` meets its contract: the part goes on to the first comma behind the place, and is read as a number.
+-- `numerals::list::part_at` meets its contract: the part is read as a number, or as none.
 -- Assumes nothing.
-use Rattle.std.proofs.Common.{refl}
-use Rattle.numerals.specs.OrderLaws.{to_the_end}
-use Rattle.numerals.specs.SeveralLaws.{part_read}
+use Rattle.numerals.specs.SeveralLaws.{part_some, part_none}
 use Rattle.numerals.proofs.list.part_at.Goals as goal
 
+pub returns-in_err-value : goal.returns-in_err-value
+returns-in_err-value c = rw c.from_residual.ensures (part_none c.end_of-end.ensures (rw c.in_err-value.was at c.number.ensures))
+
 pub returns : goal.returns
-returns c =
-    let first = rw (to_the_end c.args.from c.args.word.now) at c.comma.ensures in
-    part_read c.requires first refl c.number-read.ensures
+returns c = part_some c.end_of-end.ensures (rw c.in_ok-value.was at c.number.ensures)

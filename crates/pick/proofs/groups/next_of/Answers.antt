@@ -1,12 +1,12 @@
--- `pick::groups::next_of` meets its contract, place by place.
+-- `pick::groups::next_of` meets its contract: the filter passes the ranks that may come next, and the greatest of them is taken.
 -- Assumes nothing.
-use Rattle.pick.proofs.Next.{next_kept, next_more}
+use Rattle.std.proofs.Common.{◌∙◌, rules}
+use Rattle.std.proofs.lemmas.Iterator.{YieldsList-from_slice}
+use Rattle.std.proofs.lemmas.Iterator.Consumers.{YieldsList-from_filter, max_from_yields_List}
+use borrow.Author.Tests.{tests}
 use Rattle.pick.proofs.groups.next_of.Goals as goal
-use Rattle.pick.proofs.groups.next_of.Goals.{then-comes_next, else-comes_next}
 
-pub loop-k-preserved : goal.loop-k-preserved
-loop-k-preserved c =
-    elim c.if-comes_next.branch [
-      | then-comes_next w ↦ rw w.best-is (next_more c.loop-k.invariant c.loop-k-test.true (rw (← c.comes_next.ensures) w.if-comes_next.true))
-      | else-comes_next w ↦ rw w.best-is (next_kept c.loop-k.invariant c.loop-k-test.true (rw (← c.comes_next.ensures) w.if-comes_next.false))
-    ]
+pub returns : goal.returns
+returns c =
+    c.copied.ensures
+    ∙ max_from_yields_List _ _ c.max.ensures.ran (YieldsList-from_filter _ _ (YieldsList-from_slice c.args.ranks.now cc) c.filter.ensures.closure (λ x r q k. search (rules, tests)))

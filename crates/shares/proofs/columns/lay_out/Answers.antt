@@ -11,34 +11,20 @@ laid_column : (t j : ℕ) (constants random : List ℕ) (l : ℕ) (piece : List 
 unfolding column_of
 laid_column t j constants random l piece size e = rw (e, size, add-one)
 
-pub slice_bounds-copy-end : goal.slice_bounds-copy-end
-slice_bounds-copy-end c = omega arith
+pub slice_bounds-copy_from_slice-end : goal.slice_bounds-copy_from_slice-end
+slice_bounds-copy_from_slice-end c = omega arith
 
-pub slice_bounds-copy-end-2 : goal.slice_bounds-copy-end-2
-slice_bounds-copy-end-2 c = sym (length-take-le _ _ (omega arith))
+pub slice_bounds-copy_from_slice-end-2 : goal.slice_bounds-copy_from_slice-end-2
+slice_bounds-copy_from_slice-end-2 c = sym (length-take-le _ _ (omega arith))
 
-pub copy-requires : goal.copy-requires
-copy-requires c = length-take-le _ _ (omega arith)
+pub copy_from_slice-requires : goal.copy_from_slice-requires
+copy_from_slice-requires c = length-take-le _ _ (omega arith)
 
 pub loop-j-init : goal.loop-j-init
 unfolding column_of
-loop-j-init c = (
-  omega arith,
-  laying_first _ _ _ c.args.columns.now c.copy.new.row (omega arith) c.requires.room (ap length c.copy.ensures) c.copy.ensures,
-)
-
--- the column of a turn lies within
-pub overflow_mul-at : goal.overflow_mul-at
-overflow_mul-at c = omega (arith, part-within (length c.args.constants.now) c.args.t (c.loop-j.j + 1) (omega arith))
-
-pub overflow_add-at-in-loop-j : goal.overflow_add-at-in-loop-j
-overflow_add-at-in-loop-j c = omega (arith, part-within (length c.args.constants.now) c.args.t (c.loop-j.j + 1) (omega arith))
-
-pub offset_bounds-columns-at : goal.offset_bounds-columns-at
-offset_bounds-columns-at c = omega (arith, part-within (length c.args.constants.now) c.args.t (c.loop-j.j + 1) (omega arith))
-
-pub slice_bounds-put_coefficients-end : goal.slice_bounds-put_coefficients-end
-slice_bounds-put_coefficients-end c = omega (arith, part-within (length c.args.constants.now) c.args.t (c.loop-j.j + 1) (omega arith))
+loop-j-init c =
+    laying_first _ _ _ c.args.columns.now c.copy_from_slice.new.self (omega arith) c.requires.room
+    (ap length c.copy_from_slice.ensures.after) c.copy_from_slice.ensures.after
 
 pub put_coefficients-requires : goal.put_coefficients-requires
 put_coefficients-requires c =
@@ -50,17 +36,12 @@ pub loop-j-preserved : goal.loop-j-preserved
 loop-j-preserved c =
     let l = length c.args.constants.now in
     let within : l * (c.loop-j.j + 1) + l ≤ l * (c.args.t + 1) = part-within l c.args.t (c.loop-j.j + 1) (omega arith) in
-    let part_size = length_part (l * (c.loop-j.j + 1)) l c.loop-j.columns (omega arith) in (
-      omega arith,
-      laying_more _ _ _ c.loop-j.columns (c.loop-j.j + 1) c.put_coefficients.new.column c.loop-j.invariant.1 within (c.put_coefficients.auto.column ∙ part_size)
-          (laid_column c.args.t c.loop-j.j c.args.constants.now c.args.random.now _ _ part_size c.put_coefficients.ensures),
-    )
-
-pub shape_of-columns : goal.shape_of-columns
-shape_of-columns c = c.loop-j.invariant.1.size ∙ sym c.requires.room
+    let part_size = length_part (l * (c.loop-j.j + 1)) l c.loop-j.columns (omega arith) in
+    laying_more _ _ _ c.loop-j.columns (c.loop-j.j + 1) c.put_coefficients.new.column c.loop-j.invariant within (c.put_coefficients.auto.column ∙ part_size)
+    (laid_column c.args.t c.loop-j.j c.args.constants.now c.args.random.now _ _ part_size c.put_coefficients.ensures)
 
 pub returns : goal.returns
 unfolding columns_of
 returns c =
     let all : c.loop-j.j ≡ c.args.t = omega arith in
-    laying_done _ _ _ c.loop-j.columns (c.args.t + 1) (rw all at c.loop-j.invariant.1) refl ∙ rw add-one
+    laying_done _ _ _ c.loop-j.columns (c.args.t + 1) (rw all at c.loop-j.invariant) refl ∙ rw add-one

@@ -14,7 +14,7 @@ loop-i-init c = filling_none
 pub overflow_mul-row : goal.overflow_mul-row
 overflow_mul-row c =
     let ahead : get_or c.loop-i.row c.loop-i.i 0 ≡ get_or c.args.row.now c.loop-i.i 0 =
-    filling_ahead c.loop-i.invariant c.loop-i-test.true in
+    filling_ahead c.loop-i.invariant (omega arith) in
     let product : get_or c.loop-i.row c.loop-i.i 0 * c.args.x ≤ 256 * 16 =
     mul-le-mul {n₂ = 256} (omega (arith, ahead, c.requires.row_words c.loop-i.i (omega arith))) c.requires.keeper in
     omega (arith, product)
@@ -22,7 +22,7 @@ overflow_mul-row c =
 pub overflow_add-row : goal.overflow_add-row
 overflow_add-row c =
     let ahead : get_or c.loop-i.row c.loop-i.i 0 ≡ get_or c.args.row.now c.loop-i.i 0 =
-    filling_ahead c.loop-i.invariant c.loop-i-test.true in
+    filling_ahead c.loop-i.invariant (omega arith) in
     let product : get_or c.loop-i.row c.loop-i.i 0 * c.args.x ≤ 256 * 16 =
     mul-le-mul {n₂ = 256} (omega (arith, ahead, c.requires.row_words c.loop-i.i (omega arith))) c.requires.keeper in
     omega (arith, product, c.requires.column_words c.loop-i.i (omega arith))
@@ -30,8 +30,8 @@ overflow_add-row c =
 pub loop-i-preserved : goal.loop-i-preserved
 loop-i-preserved c =
     let ahead : get_or c.loop-i.row c.loop-i.i 0 ≡ get_or c.args.row.now c.loop-i.i 0 =
-    filling_ahead c.loop-i.invariant c.loop-i-test.true in
-    filling_more c.loop-i.invariant c.loop-i-test.true (horner c.args.x (get_or c.args.column.now c.loop-i.i 0) ahead)
+    filling_ahead c.loop-i.invariant (omega arith) in
+    filling_more c.loop-i.invariant (omega arith) (horner c.args.x (get_or c.args.column.now c.loop-i.i 0) ahead)
 
 pub returns : goal.returns
-returns c = filling_done c.loop-i.invariant c.loop-i-test.false
+returns c = filling_done c.loop-i.invariant (omega arith)

@@ -1,20 +1,13 @@
--- `sub_letters::keepers::all_keepers` meets its contract: it stops at the first that is no keeper of the order.
+-- `sub_letters::keepers::all_keepers` meets its contract: its test of the whole list is the definition's.
 -- Assumes nothing.
-use Rattle.std.proofs.Common.{sym, ◌∙◌}
-use Rattle.lists.specs.AllToLaws.{all_to_stops, passed_none, passed_next, passed_all}
-use Rattle.sub_letters.specs.Keepers.{all_keepers}
+use Rattle.std.proofs.Common.{◌∙◌, rules, tests}
+use Rattle.std.proofs.lemmas.Iterator.{YieldsList-from_slice}
+use Rattle.std.proofs.lemmas.Iterator.Search.{all_from_yields_List}
+use Rattle.header.specs.Order.{lawful_keeper}
+use Rattle.sub_letters.proofs.Tests.{all_lawful}
 use Rattle.sub_letters.proofs.keepers.all_keepers.Goals as goal
 
-pub loop-i-init : goal.loop-i-init
-loop-i-init c = passed_none _
-
-pub returns-then-not-has_keeper : goal.returns-then-not-has_keeper
-unfolding all_keepers
-returns-then-not-has_keeper c = sym (all_to_stops _ _ _ c.loop-i-test.true (sym c.has_keeper.ensures ∙ c.if-not-has_keeper.true))
-
-pub loop-i-preserved : goal.loop-i-preserved
-loop-i-preserved c = passed_next _ c.loop-i.invariant c.loop-i-test.true (sym c.has_keeper.ensures ∙ c.if-not-has_keeper.false)
-
 pub returns : goal.returns
-unfolding all_keepers
-returns c = sym (passed_all _ c.loop-i.invariant c.loop-i-test.false)
+returns c =
+    all_from_yields_List (lawful_keeper c.args.o) _ _ _ c.all.ensures.ran (YieldsList-from_slice c.args.keepers.now cc) (λ x b q k. search (rules, tests))
+    ∙ all_lawful c.args.o c.args.keepers.now

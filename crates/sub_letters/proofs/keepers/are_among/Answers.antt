@@ -1,20 +1,14 @@
--- `sub_letters::keepers::are_among` meets its contract: it stops at the first that is not among the others.
+-- `sub_letters::keepers::are_among` meets its contract: its test of the whole list is the definition's.
 -- Assumes nothing.
-use Rattle.std.proofs.Common.{sym, ap, ◌∙◌, not}
-use Rattle.lists.specs.AllToLaws.{all_to_stops, passed_none, passed_next, passed_all}
-use Rattle.sub_letters.specs.Keepers.{each_in}
+use Rattle.std.proofs.Common.{◌∙◌, eqb, rules, tests}
+use Rattle.std.proofs.lemmas.Iterator.{YieldsList-from_slice}
+use Rattle.std.proofs.lemmas.Iterator.Search.{all_from_yields_List}
+use Rattle.std.specs.List.{list_any}
+use Rattle.sub_letters.proofs.Tests.{each_among}
 use Rattle.sub_letters.proofs.keepers.are_among.Goals as goal
 
-pub loop-i-init : goal.loop-i-init
-loop-i-init c = passed_none _
-
-pub returns-then-none_is : goal.returns-then-none_is
-unfolding each_in
-returns-then-none_is c = sym (all_to_stops _ _ _ c.loop-i-test.true (ap not (sym c.none_is.ensures ∙ c.if-none_is.true)))
-
-pub loop-i-preserved : goal.loop-i-preserved
-loop-i-preserved c = passed_next _ c.loop-i.invariant c.loop-i-test.true (ap not (sym c.none_is.ensures ∙ c.if-none_is.false))
-
 pub returns : goal.returns
-unfolding each_in
-returns c = sym (passed_all _ c.loop-i.invariant c.loop-i-test.false)
+returns c =
+    let ys = c.args.ys.now in
+    all_from_yields_List (λ x. list_any (λ y. eqb y x) ys) _ _ _ c.all.ensures.ran (YieldsList-from_slice c.args.xs.now cc) (λ x b q k. search (rules, tests))
+    ∙ each_among c.args.xs.now ys

@@ -7,11 +7,8 @@ use Rattle.sub_letters.proofs.keepers.put_keepers.Goals as goal
 pub loop-i-init : goal.loop-i-init
 loop-i-init c = filling_none
 
-pub overflow_cast-row : goal.overflow_cast-row
-overflow_cast-row c = omega (arith, c.requires.below c.loop-i.i (omega arith))
-
 pub loop-i-preserved : goal.loop-i-preserved
-loop-i-preserved c = filling_more c.loop-i.invariant c.loop-i-test.true refl
+loop-i-preserved c = filling_more c.loop-i.invariant (omega (arith, c.loop-i.invariant.size, c.requires.room)) refl
 
 pub returns : goal.returns
-returns c = filling_copied c.loop-i.invariant c.requires.room c.loop-i-test.false
+returns c = filling_copied c.loop-i.invariant c.requires.room (omega arith)

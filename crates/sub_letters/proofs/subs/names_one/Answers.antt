@@ -1,25 +1,20 @@
--- `sub_letters::subs::names_one` meets its contract: it stops at the first block that names another keeper than block 0.
+-- `sub_letters::subs::names_one` meets its contract: every block names what block 0 names.
 -- Assumes nothing.
-use Rattle.std.proofs.Common.{sym, ◌∙◌, arith, eq-eqb, ne_eqb}
-use Rattle.lists.specs.AllToLaws.{all_to_stops, passed_none, passed_next, passed_all}
+use Rattle.std.proofs.Common.{◌≡◌, ℕ, ◌∙◌, refl, eqb, rules, tests, arith}
+use Rattle.std.proofs.iter.Yields.{nat_range_steps}
+use Rattle.std.proofs.lemmas.Iterator.{YieldsList-from_range}
+use Rattle.std.proofs.lemmas.Iterator.Search.{all_from_yields_List}
+use Rattle.lists.specs.AllTo.{all_to}
+use Rattle.sub_letters.specs.Subs.{from_at}
+use Rattle.sub_letters.proofs.Tests.{every_number}
 use Rattle.sub_letters.proofs.subs.names_one.Goals as goal
 
-pub from_at-first-requires : goal.from_at-first-requires
-from_at-first-requires c = (c.requires.0, omega arith)
-
-pub loop-p-init : goal.loop-p-init
-loop-p-init c = passed_none _
-
-pub from_at-requires : goal.from_at-requires
-from_at-requires c = (c.requires.0, omega arith)
-
-pub returns-then-from_at-first : goal.returns-then-from_at-first
-returns-then-from_at-first c = sym (all_to_stops _ _ _ c.loop-p-test.true (ne_eqb _ _ (λ e. c.if-from_at-first.true (c.from_at.ensures ∙ e ∙ sym c.from_at-first.ensures))))
-
-pub loop-p-preserved : goal.loop-p-preserved
-loop-p-preserved c =
-    let same = sym c.from_at.ensures ∙ c.if-from_at-first.false ∙ c.from_at-first.ensures in
-    passed_next _ c.loop-p.invariant c.loop-p-test.true (eq-eqb _ _ same)
-
 pub returns : goal.returns
-returns c = sym (passed_all _ c.loop-p.invariant c.loop-p-test.false)
+returns c =
+    let a = c.args in
+    let first = c.from_at-first.result in
+    let whole : c.all.result ≡ all_to (λ p. eqb (from_at a.letters.now a.k p) first) a.count =
+    all_from_yields_List {steps = nat_range_steps} {v = λ (x : ℕ). x} (λ p. eqb (from_at a.letters.now a.k p) first) _ _ _ c.all.ensures.ran
+    (YieldsList-from_range 0 a.count a.count refl (omega arith)) (λ x b q k. search (rules, tests))
+    ∙ every_number _ a.count in
+    rw (← c.from_at-first.ensures) whole

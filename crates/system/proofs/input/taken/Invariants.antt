@@ -1,9 +1,9 @@
-use Rattle.std.proofs.Common.{length, ◌-◌, ◌≡◌, ◌≤◌}
+-- what came is within the room
+use Rattle.std.proofs.Common.{length, ◌-◌, ◌≤◌}
 use Rattle.system.proofs.input.taken.Given as goal
 
--- the room is as long as it was, and what came is within it
 abbrev pub invariant-loop-count : goal.invariant-loop-count
-invariant-loop-count g l = (length l.room ≡ length l.initial.room) × (l.count ≤ length l.room)
+invariant-loop-count g l = l.count ≤ length l.room
 
 abbrev pub decreases-loop-count : goal.decreases-loop-count
 decreases-loop-count g l = length l.initial.room - l.count
