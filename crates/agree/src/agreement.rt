@@ -76,7 +76,7 @@ pub fn agreement(t: usize, f: usize, usable: KeeperSet, rows: &[u16], l: usize) 
     let needed = need_of(usable.count(), t, f);
     let mut set = usable;
     let mut start = 0;
-    'words: loop {
+    'words: while start < l {
         let i = in_step(t, set, rows, start, l);
         if i == l {
             return Some(set);
@@ -84,4 +84,5 @@ pub fn agreement(t: usize, f: usize, usable: KeeperSet, rows: &[u16], l: usize) 
         set = narrowed(t, needed, set, rows, i)?;
         start = i + 1;
     }
+    Some(set)
 }

@@ -51,3 +51,9 @@ words-preserved c =
       kept_narrowed kept (omega arith) count_is c.in_ok-set.ensures.narrows mod257_field keeper_points
           (λ empty. let none : c.need_of-needed.result ≤ 0 = rw empty at many in omega arith),
     )
+
+pub returns-clause-many : goal.returns-clause-many
+returns-clause-many c = let kept = c.words.invariant.1 in omega (arith, ones-member 16 c.words.set.bits kept.below, kept.enough)
+
+pub returns-clause-found : goal.returns-clause-found
+returns-clause-found c = found_kept c.words.invariant.1 (omega arith)
