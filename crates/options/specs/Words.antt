@@ -1,6 +1,6 @@
 -- The words of the commands and of the options.
 -- Assumes nothing.
-use Rattle.std.specs.Prelude.{ℕ, List, codes}
+use Rattle.std.specs.Prelude.{ℕ, ◌≡◌, List, codes, Option, Some, IfSome}
 use Rattle.options.specs.declared.command.Command.{Command}
 use Rattle.options.specs.declared.command.Command.TheVariants.{Cut, Show, Store, Fetch, Join, Compare, MoveCut, MoveWeigh, MoveCheck}
 use Rattle.options.specs.declared.option.Opt.{Opt}
@@ -17,6 +17,11 @@ command_word MoveCut = codes "move-cut"
 command_word MoveWeigh = codes "move-weigh"
 command_word MoveCheck = codes "move-check"
 
+-- the command that has a word, and none where no command has it
+pub record CommandOf (word : List ℕ) (answer : Option Command) : Type 0 where
+  pub has : IfSome answer (λ command. command_word command ≡ word)
+  pub each : (command : Command) → command_word command ≡ word → answer ≡ Some command
+
 abbrev pub option_word : Opt → List ℕ
 option_word Order = codes "--order"
 option_word Key = codes "--key"
@@ -28,3 +33,8 @@ option_word From = codes "--from"
 option_word Keepers = codes "--keepers"
 option_word Help = codes "--help"
 option_word Names = codes "--"
+
+-- the option that has a word, and none where no option has it
+pub record OptionOf (word : List ℕ) (answer : Option Opt) : Type 0 where
+  pub has : IfSome answer (λ option. option_word option ≡ word)
+  pub each : (option : Opt) → option_word option ≡ word → answer ≡ Some option

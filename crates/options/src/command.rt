@@ -2,7 +2,7 @@
 ghost use Rattle.std.specs.Prelude.{◌≡◌};
 ghost use Rattle.std.specs.List.{find};
 ghost use Rattle.std.specs.Str.{bytes_eq};
-ghost use Rattle.options.specs.Words.{command_word};
+ghost use Rattle.options.specs.Words.{command_word, CommandOf};
 
 use crate::option::Opt;
 
@@ -57,7 +57,8 @@ impl Command {
 
     // The command that a word is.
     pub fn of(word: &[u8]) -> Option<Command>
-        ensures { result ≡ find (λ command. bytes_eq (command_word command) word.now) ALL }
+        ensures first { result ≡ find (λ command. bytes_eq (command_word command) word.now) ALL }
+        ensures of { CommandOf word.now result }
     {
         ALL.iter()
             .copied()

@@ -2,7 +2,7 @@
 ghost use Rattle.std.specs.Prelude.{◌≡◌};
 ghost use Rattle.std.specs.List.{find};
 ghost use Rattle.std.specs.Str.{bytes_eq};
-ghost use Rattle.options.specs.Words.{option_word};
+ghost use Rattle.options.specs.Words.{option_word, OptionOf};
 
 #[derive(Clone, Copy, Debug, PartialEq, Eq)]
 pub enum Opt {
@@ -52,7 +52,8 @@ impl Opt {
 
     // The option that a word is.
     pub fn of(word: &[u8]) -> Option<Opt>
-        ensures { result ≡ find (λ option. bytes_eq (option_word option) word.now) ALL }
+        ensures first { result ≡ find (λ option. bytes_eq (option_word option) word.now) ALL }
+        ensures of { OptionOf word.now result }
     {
         ALL.iter()
             .copied()

@@ -55,3 +55,7 @@ code_some NothingHeld e = omega arith
 code_some ManyDifferences e = omega arith
 code_some OldKeepers e = omega arith
 code_some StampNotAbove e = omega arith
+
+-- a number that no reason has
+abbrev pub OfNoReason : ℕ → Type 0
+OfNoReason number = (refusal : Refusal) → code refusal ≡ number → ⊥

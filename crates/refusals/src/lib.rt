@@ -1,8 +1,8 @@
 // Why a call is refused: each reason by a name of its own. C is told their numbers.
 #![tactic(auto)]
 
-ghost use Rattle.std.specs.Prelude.{◌≡◌, IfOk};
-ghost use Rattle.refusals.specs.Numbers.{code, code_of};
+ghost use Rattle.std.specs.Prelude.{◌≡◌, IfOk, IfErr};
+ghost use Rattle.refusals.specs.Numbers.{code, code_of, OfNoReason};
 
 #[derive(Clone, Copy, Debug, PartialEq, Eq)]
 pub enum Refusal {
@@ -63,7 +63,8 @@ impl TryFrom<u32> for Refusal {
     type Error = ();
 
     fn try_from(number: u32) -> Result<Refusal, ()>
-        ensures { IfOk result (λ refusal. code refusal ≡ number) }
+        ensures ok { IfOk result (λ refusal. code refusal ≡ number) }
+        ensures err { IfErr result (λ _. OfNoReason number) }
     {
         match number {
             1 => Ok(Refusal::NotLawful),

@@ -6,7 +6,7 @@ ghost use Rattle.saying.specs.Status.{code};
 
 pub mod line;
 pub mod numbers;
-mod reason;
+pub mod reason;
 pub mod status;
 pub mod table;
 

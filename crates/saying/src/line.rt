@@ -41,11 +41,16 @@ impl Line {
         self.count += count;
     }
 
-    // Ends the line, in its last byte where there is no room behind it, and writes it to standard error, as far as that takes it.
-    pub fn say(mut self, rt: &HostRuntime) {
+    // Ends the line, in its last byte where there is no room behind it, and writes it to a stream. Whether all of it was written.
+    pub fn tell(mut self, rt: &HostRuntime, to: Stream) -> bool {
         let last = self.count.min(ROOM - 1);
         self.bytes[last] = b'\n';
-        let _ = put(rt, Stream::Error, &self.bytes[..last + 1]);
+        put(rt, to, &self.bytes[..last + 1]).is_ok()
+    }
+
+    // Writes it to standard error, as far as that takes it.
+    pub fn say(self, rt: &HostRuntime) {
+        self.tell(rt, Stream::Error);
     }
 }
 

@@ -1,9 +1,18 @@
 // The numbers that a call can give, in words: what it is, and what to do.
+ghost use Rattle.std.specs.Prelude.{◌≡◌};
+ghost use Rattle.refusals.specs.Numbers.{code};
+ghost use Rattle.saying.specs.Table.{line_at};
+ghost use Rattle.saying.specs.Sentences.{sentences};
+
 use crate::line::Line;
 use refusals::Refusal;
 use std::fmt::Write;
 
-fn words(refusal: Refusal) -> &'static str {
+// The line of its number in the text of them.
+#[tactic(auto, unfolding(crate::specs::Table::line_of, crate::specs::Table::rest_of, crate::specs::Table::rest_at))]
+fn words(refusal: Refusal) -> &'static str
+    ensures { result.now ≡ line_at (code refusal) sentences }
+{
     match refusal {
         Refusal::NotLawful =>
             "an order is not lawful, the key's number is above 255, or a keeper's is outside 1..N of its order: an order T,F,N has T from 1 to 7, F from 0 to T, and N from T+4F+1 to 16",
@@ -45,6 +54,18 @@ fn words(refusal: Refusal) -> &'static str {
     }
 }
 
+// What a number means: the line of the text that has it, and behind the last line nothing.
+#[tactic(auto, using(crate::proofs::Sentences::unsaid), unfolding(crate::specs::Table::line_of, crate::specs::Table::rest_at))]
+pub fn sentence(number: u32) -> &'static str
+    ensures { result.now ≡ line_at number sentences }
+{
+    match Refusal::try_from(number) {
+        Ok(refusal) => words(refusal),
+        Err(()) if number == 0 => "done",
+        Err(()) => "",
+    }
+}
+
 // Whether it is of a block of a letter, so that its place says more.
 fn is_of_a_block(refusal: Refusal) -> bool {
     matches!(
@@ -58,12 +79,11 @@ pub fn explain(rt: &HostRuntime, number: u32, place: usize) {
     if number == 0 {
         return;
     }
-    let refusal = Refusal::try_from(number);
     let mut line = Line::new();
     let _ = write!(line, "{number}");
-    if refusal.is_ok_and(is_of_a_block) {
+    if Refusal::try_from(number).is_ok_and(is_of_a_block) {
         let _ = write!(line, " in block {place}");
     }
-    let _ = write!(line, ": {}", refusal.map_or("", words));
+    let _ = write!(line, ": {}", sentence(number));
     line.say(rt);
 }

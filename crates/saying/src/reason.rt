@@ -1,5 +1,5 @@
 // The system's own words for why something failed.
-ghost use Rattle.std.specs.Prelude.{◌≤◌, length};
+ghost use Rattle.std.specs.Prelude.{◌≡◌, ◌≤◌, length, take};
 
 use crate::line::Line;
 use std::io::{Error, Write};
@@ -16,7 +16,9 @@ fn put_words(out: &mut [u8], error: Error) -> &[u8]
 }
 
 // The words without the number that the library puts behind those of the system, as " (os error 2)".
-fn without_number(words: &[u8]) -> &[u8] {
+fn without_number(words: &[u8]) -> &[u8]
+    ensures { result.now ≡ take (length result.now) words.now }
+{
     match words.iter().rposition(|&byte| byte == b'(') {
         Some(opening) if opening > 0 => &words[..opening - 1],
         _ => words,

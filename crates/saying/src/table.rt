@@ -1,5 +1,5 @@
 // Tables as text: each line an entry, counted from 0.
-// They stay for their promises, `line_at` and `First`: what the program says is no table any more.
+// They stay for their promises, `line_at` and `First`: the program reads no such text, but what it says of a number is a line of one (`numbers::sentence`).
 ghost use Rattle.std.specs.Prelude.{◌≡◌, ◌==◌, ◌<◌, position, IfSome, unwrap_or};
 ghost use Rattle.saying.specs.Table.{line_of, rest_of, line_at, First};
 
