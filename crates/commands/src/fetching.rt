@@ -1,6 +1,6 @@
 // fetch --order T,F,N --key K --keeper X [--replace] DESK LETTER: hands out the letter that a desk holds.
 use crate::desks::loaded;
-use desk::fetch;
+use desk::fetch_or_why;
 use ending::answered;
 use options::given::Given;
 use options::option::Opt;
@@ -24,7 +24,7 @@ fn hand_out(rt: &HostRuntime, g: &Given, desk: &[u8], out: &[u8]) -> Result<(), 
         },
         |error| trouble(rt, desk, b"cannot be read", error),
     )?;
-    let letter = fetch(g.terms.told, g.keeper, &room[..count]).map_err(|refusal| answered(
+    let letter = fetch_or_why(g.terms.told, g.keeper, &room[..count]).map_err(|refusal| answered(
         rt,
         refusal.number(),
         0,

@@ -20,6 +20,7 @@ pub mod Rows
 pub mod Secrecy
 -- "Any two results allowed by one promise are proved the same"
 pub mod Same
+pub mod AnswersSame
 pub mod CallsSame
 -- nothing that differs is left out of a comparison
 pub mod Differences

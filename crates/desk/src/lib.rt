@@ -108,7 +108,7 @@ pub fn store(told: Told, keeper: usize, held: &mut [u8], letter: &[u8]) -> Resul
 
 // The held slot as a part of what was lent, or why there is none to hand back.
 #[tactic(auto, unfolding(crate::specs::Desk::fetch_number, crate::specs::Desk::fetched))]
-pub fn fetch(told: Told, keeper: usize, held: &[u8]) -> Result<&[u8], Refusal>
+pub fn fetch_or_why(told: Told, keeper: usize, held: &[u8]) -> Result<&[u8], Refusal>
     ensures number { code_of result ≡ fetch_number told keeper held.now }
     ensures part { IfOk result (λ part. part.now ≡ fetched told keeper held.now) }
 {
@@ -122,4 +122,15 @@ pub fn fetch(told: Told, keeper: usize, held: &[u8]) -> Result<&[u8], Refusal>
         return Err(Refusal::NothingHeld);
     }
     Ok(held)
+}
+
+// The held slot as a part of what was lent; an empty part where fetching is refused.
+#[tactic(auto, using(refusals::specs::Numbers::code_some), unfolding(crate::specs::Desk::fetched))]
+pub fn fetch(told: Told, keeper: usize, held: &[u8]) -> &[u8]
+    ensures { result.now ≡ fetched told keeper held.now }
+{
+    match fetch_or_why(told, keeper, held) {
+        Ok(part) => part,
+        Err(_) => &held[..0],
+    }
 }

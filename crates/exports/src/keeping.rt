@@ -5,7 +5,7 @@ ghost use Rattle.exports.specs.Told.{as_told};
 ghost use Rattle.exports.specs.Store.{stored_as};
 
 use crate::told::as_told;
-use desk::{fetch, store};
+use desk::{fetch_or_why, store};
 use refusals::number;
 
 #[repr(C)]
@@ -41,5 +41,5 @@ pub fn cs_store(
 pub fn cs_fetch(t: u32, f: u32, n: u32, key: u32, keeper: u32, held: &[u8]) -> u32
     ensures { result ≡ fetch_number (as_told t f n key) keeper held.now }
 {
-    number(fetch(as_told(t, f, n, key), keeper as usize, held))
+    number(fetch_or_why(as_told(t, f, n, key), keeper as usize, held))
 }

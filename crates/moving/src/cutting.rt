@@ -104,7 +104,8 @@ fn fill(m: Move, keeper: usize, letter: &[u8], random: &[u16], tray: &mut [u8])
     let row = &mut row_room[..m.length];
     let rows = &mut rows_room[..size];
     take_shares(letter, row);
-    words::fill(m.told.order, row, random, rows);
+    // It is not refused: a good letter's share words can be cut, and what else it is told and lent was judged before.
+    let _ = words::cut(m.told.order, row, random, rows);
     let from = keeper as u16;
     write_subs(m, from, rows, tray);
 }

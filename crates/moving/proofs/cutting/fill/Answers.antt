@@ -7,6 +7,7 @@ use Rattle.header.specs.FirstOf.{both_right}
 use Rattle.moving.specs.Cutting.{cut_refusal, move_cut_number}
 use Rattle.moving.specs.CuttingLaws.{LentRight, OldRight, refusal_right, old_right, shares-cut_right, rows_tray, rows_few}
 use Rattle.moving.specs.declared.terms.Move.{Move}
+use Rattle.shares.specs.Fills.{filled}
 use Rattle.moving.proofs.cutting.fill.Goals as goal
 
 module _ (m : Move) (keeper : ℕ) (letter random tray : List ℕ) (right : move_cut_number m keeper letter random tray ≡ 0) where
@@ -39,13 +40,6 @@ take_shares-requires c =
     let most = right.terms.of_terms.length_most in
     (right.letter_lent, rw length-take (omega arith))
 
-pub fill-requires : goal.fill-requires
-fill-requires c =
-    let right = lent _ _ _ _ _ c.requires in
-    let taken : c.take_shares.new.row ≡ shares_of c.args.letter.now c.args.m.length =
-    c.take_shares.ensures ∙ ap (shares_of c.args.letter.now) (length-take-le _ _ right.terms.of_terms.length_most) in
-    shares-cut_right right (old _ _ _ _ _ c.requires) _ _ taken (length-take-le _ _ (rows_few right.terms))
-
 pub overflow_cast-from : goal.overflow_cast-from
 overflow_cast-from c =
     let right = lent _ _ _ _ _ c.requires in
@@ -54,11 +48,14 @@ overflow_cast-from c =
 pub write_subs-requires : goal.write_subs-requires
 write_subs-requires c =
     let right = lent _ _ _ _ _ c.requires in
-    record { terms = right.terms; rows_length = c.fill.auto.rows ∙ length-take-le _ _ (rows_few right.terms); tray_length = right.tray_lent }
+    record { terms = right.terms; rows_length = c.cut.auto.rows ∙ length-take-le _ _ (rows_few right.terms); tray_length = right.tray_lent }
 
 pub returns : goal.returns
 returns c =
     let right = lent _ _ _ _ _ c.requires in
     let taken : c.take_shares.new.row ≡ shares_of c.args.letter.now c.args.m.length =
     c.take_shares.ensures ∙ ap (shares_of c.args.letter.now) (length-take-le _ _ right.terms.of_terms.length_most) in
-    rows_tray right (old _ _ _ _ _ c.requires) mod257 _ _ _ _ refl taken c.fill.ensures c.write_subs.ensures
+    let of_letter = old _ _ _ _ _ c.requires in
+    rows_tray right of_letter mod257 _ _ _ _ refl taken
+    (filled c.cut.ensures (shares-cut_right right of_letter _ _ taken (length-take-le _ _ (rows_few right.terms))))
+    c.write_subs.ensures
