@@ -20,11 +20,9 @@ pub fn words_for(t: usize, length: usize) -> usize
 }
 
 // Puts the letters of a tray into their folder, whose name may end in '/'.
-fn put_letters(rt: &HostRuntime, g: &Given, n: u32, tray: &[u8]) -> Result<(), Status>
+pub fn put_letters(rt: &HostRuntime, folder: &[u8], n: u32, tray: &[u8]) -> Result<(), Status>
     requires { length tray.now ≡ 2048 * n }
 {
-    let mut room = io::buffer();
-    let folder = g.second_name(rt, &mut room);
     made(rt, trimmed(folder), n, tray)
 }
 
@@ -53,7 +51,8 @@ pub fn cut_into<F: FnOnce(&[u16], &mut [u8]) -> Result<(), Fault>>(
     let mut slots = [0u8; 32768];
     let tray = &mut slots[..2048 * n as usize];
     cut(random, tray).map_err(|fault| faulty(rt, fault))?;
-    put_letters(rt, g, n, tray)
+    let mut room = io::buffer();
+    put_letters(rt, g.second_name(rt, &mut room), n, tray)
 }
 
 pub fn run(rt: &HostRuntime, g: &Given) -> Result<(), Status> {

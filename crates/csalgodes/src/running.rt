@@ -67,7 +67,7 @@ fn run(rt: &HostRuntime) -> Result<(), Status> {
         None => Err(wrong_word(
             rt,
             front(64, &room),
-            "begins a word of more than 4096 bytes",
+            b"begins a word of more than 4096 bytes",
         )),
     }
 }

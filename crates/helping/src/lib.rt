@@ -5,7 +5,6 @@ use options::command::Command;
 use saving::save::said;
 use saying::line::Line;
 use saying::status::Status;
-use std::fmt::Write;
 use system::output::Stream;
 use system::words::{word as word_at, word_count};
 
@@ -220,11 +219,12 @@ pub fn say_usage(rt: &HostRuntime) -> Status {
 }
 
 // A word that is wrong, where no command is named.
-pub fn wrong_word(rt: &HostRuntime, word: &[u8], rule: &str) -> Status {
+pub fn wrong_word(rt: &HostRuntime, word: &[u8], rule: &[u8]) -> Status {
     let mut line = Line::new();
     line.add(b"'");
     line.add(word);
-    let _ = write!(line, "': {rule}");
+    line.add(b"': ");
+    line.add(rule);
     line.say(rt);
     let mut more = Line::new();
     more.add(b"'csalgodes help' says how it is used");
@@ -233,13 +233,13 @@ pub fn wrong_word(rt: &HostRuntime, word: &[u8], rule: &str) -> Status {
 }
 
 pub fn no_such_command(rt: &HostRuntime, word: &[u8]) -> Status {
-    wrong_word(rt, word, "there is no such command")
+    wrong_word(rt, word, b"there is no such command")
 }
 
 fn too_many(rt: &HostRuntime, at: usize) -> Status {
     let mut room = io::buffer();
     let word = word_at(rt, at, &mut room).unwrap_or(&[]);
-    wrong_word(rt, word, "is one word too many")
+    wrong_word(rt, word, b"is one word too many")
 }
 
 fn help_of(rt: &HostRuntime, word: &[u8]) -> Result<(), Status> {

@@ -1,4 +1,4 @@
-// The lines of the report, written into a text of fixed room.
+// The lines of the report, written into a text of fixed room, or into bytes that are lent.
 #![tactic(auto)]
 
 pub mod line;

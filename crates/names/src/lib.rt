@@ -1,9 +1,10 @@
 // Names of files, as bytes: what is put behind a name, the slots of a tray, the folder that a name stands in.
 #![tactic(auto)]
 
-ghost use Rattle.std.specs.Prelude.{◌≡◌, ◌++◌, ◌≤◌, length, take, drop};
+ghost use Rattle.std.specs.Prelude.{◌≡◌, ◌++◌, ◌≤◌, nat_le, length, take, drop};
+ghost use Rattle.io.specs.Counts.{IsPrefixLen};
 ghost use Rattle.lines.specs.Text.{decimal, text};
-ghost use Rattle.names.specs.Names.{NamedBy, Ended, Closed};
+ghost use Rattle.names.specs.Names.{Named, NamedBy, Ended, Closed};
 
 use lines::text::Text;
 
@@ -20,18 +21,38 @@ fn put(out: &mut [u8], bytes: &[u8])
     out[..bytes.len()].copy_from_slice(bytes);
 }
 
-// A name with something behind it; none where it is longer than a name can be.
-pub fn with<'a>(name: &[u8], behind: &[u8], out: &'a mut [u8; PATH_MAX]) -> Option<&'a [u8]>
-    ensures { NamedBy (name.now ++ behind.now) result }
+// Whether a name with something behind it is no longer than a name can be.
+fn fits(name: &[u8], behind: &[u8]) -> bool
+    ensures { result ≡ nat_le (length (name.now ++ behind.now)) 4095 }
 {
-    if name.len() > LAST || behind.len() > LAST - name.len() {
-        return None;
+    name.len() <= LAST && behind.len() <= LAST - name.len()
+}
+
+// Puts a name with something behind it at the start of a room, and answers how long that is: 0 where it is longer than a name can be.
+pub fn put_with(name: &[u8], behind: &[u8], out: &mut [u8; PATH_MAX]) -> usize
+    ensures prefix_len { IsPrefixLen result out.new }
+    ensures named { Named (name.now ++ behind.now) out.new result }
+{
+    if !fits(name, behind) {
+        return 0;
     }
     let end = name.len() + behind.len();
     let room = &mut out[..];
     room[..name.len()].copy_from_slice(name);
     room[name.len()..end].copy_from_slice(behind);
-    Some(&out[..end])
+    end
+}
+
+// A name with something behind it; none where it is longer than a name can be.
+pub fn with<'a>(name: &[u8], behind: &[u8], out: &'a mut [u8; PATH_MAX]) -> Option<&'a [u8]>
+    ensures { NamedBy (name.now ++ behind.now) result }
+{
+    let end = put_with(name, behind, out);
+    if fits(name, behind) {
+        Some(&out[..end])
+    } else {
+        None
+    }
 }
 
 // What stands behind a tray in the name of a keeper's slot, as "/3".
@@ -42,6 +63,14 @@ fn behind_tray(keeper: u32) -> Text<16>
     behind.put(b"/");
     behind.put_decimal(keeper);
     behind
+}
+
+// Puts the name of a keeper's slot in a tray, as "tray/3", at the start of a room, and answers how long it is, as `put_with`.
+pub fn put_slot(tray: &[u8], keeper: u32, out: &mut [u8; PATH_MAX]) -> usize
+    ensures prefix_len { IsPrefixLen result out.new }
+    ensures named { Named (tray.now ++ (text "/" ++ decimal keeper)) out.new result }
+{
+    put_with(tray, behind_tray(keeper).bytes(), out)
 }
 
 // The name of a keeper's slot in a tray, as "tray/3".

@@ -3,7 +3,6 @@ ghost use Rattle.std.specs.Prelude.{◌≡◌};
 ghost use Rattle.refusals.specs.Numbers.{code_of};
 ghost use Rattle.lines.specs.Lines.{answer_line};
 
-use lines::line::put_answer_line;
 use lines::text::Text;
 use refusals::{Refusal, number};
 
@@ -25,7 +24,7 @@ pub fn answer_alone(number: u32) -> Text<512>
     ensures { result ≡ answer_line number }
 {
     let mut text = Text::new();
-    put_answer_line(&mut text, number);
+    text.put_answer_line(number);
     text
 }
 

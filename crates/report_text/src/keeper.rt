@@ -6,7 +6,7 @@ ghost use Rattle.report_text.specs.Report.{standing};
 ghost use Rattle.report_text.specs.Sets.{line_of};
 
 use join::Joined;
-use lines::line::{Standing, put_keeper_line};
+use lines::line::Standing;
 use lines::text::Text;
 use refusals::Refusal;
 use search::keepers::KeeperSet;
@@ -31,7 +31,7 @@ fn put_keeper(text: &mut Text<512>, usable: KeeperSet, joined: Joined, k: usize)
     ensures { text.new ≡ text.old ++ line_of (code_of joined.outcome) usable.bits joined.set.bits k }
 {
     let stands = standing_of(joined.outcome, usable.has(k), joined.set.has(k));
-    put_keeper_line(text, k as u32 + 1, stands);
+    text.put_keeper_line(k as u32 + 1, stands);
 }
 
 // Writes the lines of the keepers 1..n.

@@ -6,7 +6,6 @@ ghost use Rattle.report_text.specs.Sets.{lines_of};
 use crate::keeper::put_keepers;
 use header::terms::Terms;
 use join::Joined;
-use lines::line::{put_answer_line, put_count_line, put_key_line};
 use lines::text::Text;
 use refusals::number;
 use search::keepers::KeeperSet;
@@ -20,9 +19,9 @@ pub fn put_lines(terms: Terms, usable: KeeperSet, joined: Joined) -> Text<512>
 {
     let told = terms.told;
     let mut text = Text::new();
-    put_key_line(&mut text, told.key as u32, terms.stamp, terms.length as u32);
+    text.put_key_line(told.key as u32, terms.stamp, terms.length as u32);
     put_keepers(&mut text, told.order.n, usable, joined);
-    put_count_line(&mut text, joined.usable, joined.need, joined.set.count());
-    put_answer_line(&mut text, number(joined.outcome));
+    text.put_count_line(joined.usable, joined.need, joined.set.count());
+    text.put_answer_line(number(joined.outcome));
     text
 }

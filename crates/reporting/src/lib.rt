@@ -1,27 +1,36 @@
 // The program `report`: an order, a key and a tray on standard input, the report on standard output, its number as the status.
 #![tactic(auto)]
 
-ghost use Rattle.std.specs.Prelude.{List, ℕ, pos};
-ghost use Rattle.reporting.specs.Status.{Ended};
+ghost use Rattle.std.specs.Prelude.{◌≡◌, List, ℕ, pos};
+ghost use Rattle.refusals.specs.Numbers.{code_of};
+ghost use Rattle.reporting.specs.Status.{status_of, Ended};
 
-use crate::standard::{refuse_words, taken, unwritten};
-use refusals::number;
+use crate::standard::{refuse_words, say, taken};
+use refusals::{Refusal, number};
 use report_text::report;
 use system::output::wrote;
 use system::words::word_count;
 
 mod standard;
 
-// Writes the report of an input, and answers its number, or 100, which is none, where it is not written.
+// The number of the report, or 100, which is none, where the report is not written.
+fn status_of(written: bool, outcome: Result<(), Refusal>) -> u8
+    ensures { pos result ≡ status_of written (code_of outcome) }
+{
+    if written { number(outcome) as u8 } else { 100 }
+}
+
+// Writes the report of an input.
 fn write_report(rt: &HostRuntime, input: &[u8]) -> u8
     ensures { Ended input.now (pos result) }
 {
     let mut out = [0u8; 512];
     let answered = report(input, &mut out);
-    match wrote(rt, &out[..answered.count]) {
-        Ok(()) => number(answered.outcome) as u8,
-        Err(_) => unwritten(rt, "report: standard output cannot be written\n"),
+    let written = wrote(rt, &out[..answered.count]).is_ok();
+    if !written {
+        say(rt, "report: standard output cannot be written\n");
     }
+    status_of(written, answered.outcome)
 }
 
 // The whole program.

@@ -3,7 +3,7 @@ ghost use Rattle.std.specs.Prelude.{◌≡◌};
 ghost use Rattle.saying.specs.Status.{code, ElseFailed};
 
 use crate::temp::created_temp;
-use files::kind::{Kind, Owner, seen};
+use files::kind::{Kind, seen};
 use files::load::is_dash;
 use locks::{held, let_go, lock_of};
 use names::with;
@@ -15,6 +15,9 @@ use std::os::fd::AsFd;
 use std::os::unix::fs::{MetadataExt, PermissionsExt, fchown};
 use system::named::{opened, removed, renamed as moved};
 use system::output::{Stream, put, synced as flushed};
+
+// Whose a file is to be.
+pub use files::kind::Owner;
 
 // Whether a file that the program has made is this user's already.
 fn is_of(file: &File, user: u32) -> bool {

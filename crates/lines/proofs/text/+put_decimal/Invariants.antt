@@ -1,6 +1,6 @@
 -- The measure is the number.
 -- Assumes nothing.
-use Rattle.lines.proofs.text.Text.+put_decimal.Given as goal
+use Rattle.lines.proofs.text.+put_decimal.Given as goal
 
 abbrev pub decreases-put_decimal : goal.decreases-put_decimal
-decreases-put_decimal g l = l.n
+decreases-put_decimal l = l.n
