@@ -11,7 +11,6 @@ pub mod status;
 pub mod table;
 
 use crate::line::Line;
-use crate::reason::add_reason;
 use crate::status::Status;
 use std::io::Error;
 
@@ -29,7 +28,7 @@ pub fn trouble(rt: &HostRuntime, name: &[u8], what: &[u8], error: Error) -> Stat
     ensures { code result ≡ 100 }
 {
     let mut line = about(name, what);
-    add_reason(&mut line, error);
+    line.add_reason(error);
     line.say(rt);
     Status::Failed
 }

@@ -1,7 +1,10 @@
 // A line of what is said to people, made piece by piece and written at once.
 ghost use Rattle.std.specs.Prelude.{◌≤◌};
+ghost use Rattle.io.specs.Counts.{IsPrefixLen};
 
+use crate::reason::add_reason;
 use std::fmt;
+use std::io::Error;
 use system::output::{Stream, put};
 
 // How many bytes a line has at most, with the one that ends it.
@@ -20,6 +23,37 @@ fn shown(byte: u8) -> u8 {
     if byte.is_ascii_control() { b'?' } else { byte }
 }
 
+// Puts bytes from a place on, as far as there is room, and answers the place after them.
+pub fn add(out: &mut [u8], at: usize, bytes: &[u8]) -> usize
+    ensures { IsPrefixLen result out.new }
+{
+    let start = at.min(out.len());
+    let room = &mut out[start..];
+    let count = bytes.len().min(room.len());
+    for (place, byte) in room.iter_mut().zip(bytes) {
+        *place = shown(*byte);
+    }
+    start + count
+}
+
+// Ends the line that stands there, in the last byte where there is no room behind it.
+fn end(out: &mut [u8], count: usize) -> usize
+    ensures { IsPrefixLen result out.new }
+{
+    if out.is_empty() {
+        return 0;
+    }
+    let last = count.min(out.len() - 1);
+    out[last] = b'\n';
+    last + 1
+}
+
+// Ends the line and writes it to a stream. Whether all of it was written.
+pub fn tell(rt: &HostRuntime, to: Stream, out: &mut [u8], count: usize) -> bool {
+    let whole = end(out, count);
+    put(rt, to, &out[..whole]).is_ok()
+}
+
 impl Line {
     // The start of each line: the program's name.
     pub fn new() -> Line {
@@ -33,19 +67,18 @@ impl Line {
 
     // Puts bytes behind what stands there, as far as there is room.
     pub fn add(&mut self, bytes: &[u8]) {
-        let room = &mut self.bytes[self.count..];
-        let count = bytes.len().min(room.len());
-        for (place, byte) in room.iter_mut().zip(bytes) {
-            *place = shown(*byte);
-        }
-        self.count += count;
+        self.count = add(&mut self.bytes, self.count, bytes);
     }
 
-    // Ends the line, in its last byte where there is no room behind it, and writes it to a stream. Whether all of it was written.
+    // Puts a colon and the reason there.
+    pub fn add_reason(&mut self, error: Error) {
+        self.count = add_reason(&mut self.bytes, self.count, error);
+    }
+
+    // Ends the line and writes it to a stream. Whether all of it was written.
     pub fn tell(mut self, rt: &HostRuntime, to: Stream) -> bool {
-        let last = self.count.min(ROOM - 1);
-        self.bytes[last] = b'\n';
-        put(rt, to, &self.bytes[..last + 1]).is_ok()
+        let count = self.count;
+        tell(rt, to, &mut self.bytes, count)
     }
 
     // Writes it to standard error, as far as that takes it.

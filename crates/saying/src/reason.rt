@@ -1,7 +1,8 @@
 // The system's own words for why something failed.
 ghost use Rattle.std.specs.Prelude.{◌≡◌, ◌≤◌, length, take};
+ghost use Rattle.io.specs.Counts.{IsPrefixLen};
 
-use crate::line::Line;
+use crate::line::add;
 use std::io::{Error, Write};
 
 // Puts the words of an error at the start of a room, as far as there is room.
@@ -25,14 +26,16 @@ fn without_number(words: &[u8]) -> &[u8]
     }
 }
 
-// Puts a colon and the reason behind what stands there.
-pub fn add_reason(line: &mut Line, error: Error) {
+// Puts a colon and the reason from a place on, and answers the place after them.
+pub fn add_reason(out: &mut [u8], at: usize, error: Error) -> usize
+    ensures { IsPrefixLen result out.new }
+{
     let mut room = [0u8; 256];
     let words = put_words(&mut room, error);
-    line.add(b": ");
+    let colon = add(out, at, b": ");
     if error.raw_os_error().is_some() {
-        line.add(without_number(words));
+        add(out, colon, without_number(words))
     } else {
-        line.add(words);
+        add(out, colon, words)
     }
 }
